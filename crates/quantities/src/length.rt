@@ -1,0 +1,35 @@
+// Lengths of wire, in micrometres.
+ghost use mathlib.Core.Path.{_≡_};
+ghost use Prim.Native.Nat.{_+_, _≤_};
+ghost use lib.Dec.{ltb};
+ghost use Rattle.quantities.specs.Reach.{lengthReach};
+
+pub struct Length(u64);
+
+impl Length {
+    // A length that was given as a number.
+    pub fn of(micrometres: u64) -> Self
+        ensures { λ r. ⌜ r .0 ≡ micrometres ⌝ }
+    {
+        Length(micrometres)
+    }
+
+    pub fn value(self) -> u64
+        ensures { λ r. ⌜ r ≡ self .0 ⌝ }
+    {
+        self.0
+    }
+
+    pub fn plus(self, other: Length) -> Self
+        requires { ⌜ (self .0 ≤ lengthReach) × (other .0 ≤ lengthReach) ⌝ }
+        ensures { λ r. ⌜ r .0 ≡ self .0 + other .0 ⌝ }
+    {
+        Length(self.0 + other.0)
+    }
+
+    pub fn is_less(self, other: Length) -> bool
+        ensures { λ r. ⌜ r ≡ ltb (self .0) (other .0) ⌝ }
+    {
+        self.0 < other.0
+    }
+}
