@@ -1,14 +1,17 @@
--- A whole number by its two parts: z is `up z` less `dn z`. Each lemma turns a fact of ℤ into one of ℕ that `omega` reads.
+-- A library for proofs: linear arithmetic over whole numbers with `omega`, which reads natural numbers alone.
+-- A whole number z is `up z` less `dn z`, two naturals. The ruleset `whole` turns each order, equation, test and fit of whole numbers, in a hypothesis or as
+-- the goal, into one of naturals. A proof lists one fact for each operation besides: `omega (arith, whole, +is a b, -is c d)`.
+-- Facts are stated by differences, `up z + .. ≡ .. + dn z`, since `omega` does not know that one of the two parts is 0.
 use mathlib.Core.Path.{_≡_, refl, sym, ap, subst, _∙_}
 use mathlib.Core.Logic.{_⊎_, inl, inr}
 use mathlib.Core.Bool.{Bool, true, false, not, cond}
-use Prim.Native.Nat.{ℕ, zero, suc, _+_, _*_, _-_, _/_, _^_, _≤_, _<_, min, max}
+use Prim.Native.Nat.{ℕ, zero, suc, _+_, _*_, _-_, _^_, _≤_, _<_, min, max}
 use native.Mathlib.Omega.{arith}
-use native.Mathlib.Nat.{le-trans, div-le-self, mul-le-mul-left, mul-le-mul-right}
+use native.Mathlib.Nat.{le-trans, mul-le-mul}
 use lib.Dec.{T, ltb, leb, ltb→lt, nltb→le, leb→le, le→leb, lt→ltb}
 use borrow.Author.Tests.{leb-false}
 use lib.IntN.{ℤ, pos, negsuc, negℤ, subℕ, _+ℤ_, _-ℤ_, _*ℤ_, natAbs}
-use lib.Signed.{mag, ltZ, leZ, nonNeg, quotZ, _≤ℤ_, _<ℤ_, ltZ-no}
+use lib.Signed.{mag, ltZ, leZ, nonNeg, _≤ℤ_, _<ℤ_, ltZ-no}
 use mir.Syntax.{Width, w64}
 use mir.Val.{SFits, toZ, ofZ, hbits}
 use mir.ValLaws.{toZ-ofZ}
@@ -21,7 +24,8 @@ abbrev pub dn : ℤ → ℕ
 dn (pos n) = 0
 dn (negsuc n) = suc n
 
--- ---- orders and equations of ℤ, among the hypotheses
+-- ---- orders and equations, as hypotheses
+
 pub le→ : {a b : ℤ} → a ≤ℤ b → up a + dn b ≤ up b + dn a
 le→ {a = pos a} {b = pos b} h = omega (arith, leb→le a b (h .le))
 le→ {a = pos a} {b = negsuc b} h = absurd (h .le)
@@ -38,43 +42,36 @@ pub eq→ : {a b : ℤ} → a ≡ b → up a + dn b ≡ up b + dn a
 eq→ {a} {b} e = subst (λ (z : ℤ). up a + dn z ≡ up z + dn a) e refl
 
 -- ---- and as goals
+
+sum-positive : (m n : ℕ) → m + suc n ≤ 0 → ⊥
+sum-positive m n h = omega arith
+
 pub →le : {a b : ℤ} → up a + dn b ≤ up b + dn a → a ≤ℤ b
 →le {a = pos a} {b = pos b} h = record { le = le→leb a b (omega arith) }
-→le {a = pos a} {b = negsuc b} h = absurd (clash h)
-  where
-    clash : a + suc b ≤ 0 + 0 → ⊥
-    clash h = omega arith
+→le {a = pos a} {b = negsuc b} h = absurd (sum-positive a b h)
 →le {a = negsuc a} {b = pos b} h = record { le = tt }
 →le {a = negsuc a} {b = negsuc b} h = record { le = le→leb b a (omega arith) }
 
 pub →lt : {a b : ℤ} → up a + dn b < up b + dn a → a <ℤ b
 →lt {a = pos a} {b = pos b} h = record { lt = lt→ltb a b (omega arith) }
-→lt {a = pos a} {b = negsuc b} h = absurd (clash h)
-  where
-    clash : a + suc b < 0 + 0 → ⊥
-    clash h = omega arith
+→lt {a = pos a} {b = negsuc b} h = absurd (sum-positive a b (omega arith))
 →lt {a = negsuc a} {b = pos b} h = record { lt = tt }
 →lt {a = negsuc a} {b = negsuc b} h = record { lt = lt→ltb b a (omega arith) }
 
 pub →eq : {a b : ℤ} → up a + dn b ≡ up b + dn a → a ≡ b
 →eq {a = pos a} {b = pos b} h = ap pos (omega arith)
-→eq {a = pos a} {b = negsuc b} h = absurd (clash h)
-  where
-    clash : a + suc b ≡ 0 + 0 → ⊥
-    clash h = omega arith
-→eq {a = negsuc a} {b = pos b} h = absurd (clash h)
-  where
-    clash : 0 + 0 ≡ b + suc a → ⊥
-    clash h = omega arith
+→eq {a = pos a} {b = negsuc b} h = absurd (sum-positive a b (omega arith))
+→eq {a = negsuc a} {b = pos b} h = absurd (sum-positive b a (omega arith))
 →eq {a = negsuc a} {b = negsuc b} h = ap negsuc (omega arith)
 
--- ---- the parts of a sum, a difference, a negation, a product by a natural
+-- ---- the parts of a difference of naturals, a sum, a negation, a difference, a product with a natural, a magnitude
+
 pub sub-is : (a b : ℕ) → up (subℕ a b) + b ≡ a + dn (subℕ a b)
-sub-is a b = by (ltb a b) (λ t. ltb→lt a b t) (λ t. nltb→le a b t)
+sub-is a b = go (ltb a b) (λ t. ltb→lt a b t) (λ t. nltb→le a b t)
   where
-    by : (t : Bool) → (T t → a < b) → (T (not t) → b ≤ a) → up (cond t (negsuc (b - suc a)) (pos (a - b))) + b ≡ a + dn (cond t (negsuc (b - suc a)) (pos (a - b)))
-    by true f g = omega (arith, f tt)
-    by false f g = omega (arith, g tt)
+    go : (t : Bool) → (T t → a < b) → (T (not t) → b ≤ a) → up (cond t (negsuc (b - suc a)) (pos (a - b))) + b ≡ a + dn (cond t (negsuc (b - suc a)) (pos (a - b)))
+    go true f g = omega (arith, f tt)
+    go false f g = omega (arith, g tt)
 
 pub +is : (a b : ℤ) → up (a +ℤ b) + (dn a + dn b) ≡ (up a + up b) + dn (a +ℤ b)
 +is (pos a) (pos b) = omega arith
@@ -99,44 +96,16 @@ pub *is : (a : ℤ) (k : ℕ) → up (a *ℤ pos k) + dn a * k ≡ up a * k + dn
 *is (pos a) k = omega arith
 *is (negsuc a) k = omega (arith, neg-up (pos (suc a * k)), neg-dn (pos (suc a * k)))
 
--- ---- one part is 0
+pub natAbs-is : (z : ℤ) → natAbs z ≡ (up z - dn z) + (dn z - up z)
+natAbs-is (pos n) = omega arith
+natAbs-is (negsuc n) = omega arith
+
 pub one-part : (a : ℤ) → min (up a) (dn a) ≡ 0
 one-part (pos a) = omega arith
 one-part (negsuc a) = omega arith
 
--- ---- ranges
-pub sfits-up : {w : Width} {z : ℤ} → SFits w z → up z < 2 ^ hbits w
-sfits-up {z = pos n} h = h .sfits
-sfits-up {z = negsuc n} h = omega (arith, h .sfits)
+-- ---- tests: what each outcome says
 
-pub sfits-dn : {w : Width} {z : ℤ} → SFits w z → dn z ≤ 2 ^ hbits w
-sfits-dn {z = pos n} h = omega arith
-sfits-dn {z = negsuc n} h = h .sfits
-
-pub →sfits : {w : Width} {z : ℤ} → max (up z + up z + 1) (dn z + dn z) ≤ 2 ^ hbits w + (up z + dn z) → SFits w z
-→sfits {z = pos n} h = record { sfits = omega arith }
-→sfits {z = negsuc n} h = record { sfits = omega arith }
-
--- the bound that a call's result or a read has, without its record
-pub mag-up : (z : ℤ) → up z ≤ mag z
-mag-up (pos n) = omega arith
-mag-up (negsuc n) = omega arith
-
-pub mag-dn : (z : ℤ) → dn z ≤ mag z + 1
-mag-dn (pos n) = omega arith
-mag-dn (negsuc n) = omega arith
-
--- ---- what the machine reads back from a number's bits
-abbrev pub rd : ℤ → ℤ
-rd z = toZ w64 (ofZ w64 z)
-
-pub back-up : {w : Width} {z : ℤ} → SFits w z → up (toZ w (ofZ w z)) ≡ up z
-back-up {w} {z} h = ap up (toZ-ofZ w z h)
-
-pub back-dn : {w : Width} {z : ℤ} → SFits w z → dn (toZ w (ofZ w z)) ≡ dn z
-back-dn {w} {z} h = ap dn (toZ-ofZ w z h)
-
--- ---- tests
 pub ltZ-t : (a b : ℤ) → ltZ a b ≡ true → up a + dn b < up b + dn a
 ltZ-t a b e = lt→ {a = a} {b = b} (record { lt = subst T (sym e) tt })
 
@@ -152,30 +121,43 @@ leZ-f (pos a) (negsuc b) e = omega arith
 leZ-f (negsuc a) (pos b) e = absurd (subst T e tt)
 leZ-f (negsuc a) (negsuc b) e = omega (arith, leb-false b a e)
 
--- ---- casts to an unsigned type
-pub natAbs-is : (z : ℤ) → natAbs z ≡ (up z - dn z) + (dn z - up z)
-natAbs-is (pos n) = omega arith
-natAbs-is (negsuc n) = omega arith
+-- ---- machine integers: a number that fits, and what is read back from its bits
+
+pub sfits-up : {w : Width} {z : ℤ} → SFits w z → up z < 2 ^ hbits w
+sfits-up {z = pos n} h = h .sfits
+sfits-up {z = negsuc n} h = omega (arith, h .sfits)
+
+pub sfits-dn : {w : Width} {z : ℤ} → SFits w z → dn z ≤ 2 ^ hbits w
+sfits-dn {z = pos n} h = omega arith
+sfits-dn {z = negsuc n} h = h .sfits
+
+-- both bounds in one statement: a rule gives one fact
+pub →sfits : {w : Width} {z : ℤ} → max (up z + up z + 1) (dn z + dn z) ≤ 2 ^ hbits w + (up z + dn z) → SFits w z
+→sfits {z = pos n} h = record { sfits = omega arith }
+→sfits {z = negsuc n} h = record { sfits = omega arith }
+
+pub →nonNeg : (z : ℤ) → dn z ≤ up z → T (nonNeg z)
+→nonNeg (pos n) h = tt
+→nonNeg (negsuc n) h = absurd (sum-positive 0 n (omega arith))
+
+-- the number that the machine reads back from the bits of z
+abbrev pub rd : ℤ → ℤ
+rd z = toZ w64 (ofZ w64 z)
+
+pub back : {w : Width} {z : ℤ} → SFits w z → up (toZ w (ofZ w z)) + dn z ≡ up z + dn (toZ w (ofZ w z))
+back {w} {z} h = omega (arith, ap up (toZ-ofZ w z h), ap dn (toZ-ofZ w z h))
 
 pub back-abs : {w : Width} {z : ℤ} → SFits w z → natAbs (toZ w (ofZ w z)) ≡ (up z - dn z) + (dn z - up z)
 back-abs {w} {z} h = ap natAbs (toZ-ofZ w z h) ∙ natAbs-is z
 
-pub →nonNeg : (z : ℤ) → dn z ≤ up z → T (nonNeg z)
-→nonNeg (pos n) h = tt
-→nonNeg (negsuc n) h = absurd (clash h)
-  where
-    clash : suc n ≤ 0 → ⊥
-    clash h = omega arith
+-- `omega` applies to a hypothesis the first rule that fits it, and no other
+pub ruleset whole = (le→, lt→, eq→, →le, →lt, →eq, →sfits, back, →nonNeg, ltZ-t, ltZ-f, leZ-t, leZ-f)
 
--- what the machine reads back, as one equation: the rule for `c .fits .x`. `omega` applies to a hypothesis the first rule of the list that fits it, and no other
-pub back : {w : Width} {z : ℤ} → SFits w z → up (toZ w (ofZ w z)) + dn z ≡ up z + dn (toZ w (ofZ w z))
-back h = omega (arith, back-up h, back-dn h)
-
--- an element that was read, and a call's result: what is known is the bare bound, `c .x .given`, `c .f .ok`
+-- an element that was read, a call's result and a struct's field bring the bare bound
 pub fit : (z : ℤ) → mag z < 2 ^ hbits w64 → SFits w64 z
 fit z h = record { sfits = h }
 
--- ---- the machine's sum, difference and product, as an equation of ℤ: for a result that stands under a function, as `set s i _`. From the ranges of the operands, and the need that the operation left
+-- the machine's sum, difference and product as equations of whole numbers, from the fits of the operands and of the result
 module _ {w : Width} {x y : ℤ} (fx : SFits w x) (fy : SFits w y) where
   pub sum-is : SFits w (toZ w (ofZ w x) +ℤ toZ w (ofZ w y)) → toZ w (ofZ w (toZ w (ofZ w x) +ℤ toZ w (ofZ w y))) ≡ x +ℤ y
   sum-is h = toZ-ofZ w _ h ∙ (λ i. toZ-ofZ w x fx i +ℤ toZ-ofZ w y fy i)
@@ -186,7 +168,7 @@ module _ {w : Width} {x y : ℤ} (fx : SFits w x) (fy : SFits w y) where
   pub mul-is : SFits w (toZ w (ofZ w x) *ℤ toZ w (ofZ w y)) → toZ w (ofZ w (toZ w (ofZ w x) *ℤ toZ w (ofZ w y))) ≡ x *ℤ y
   mul-is h = toZ-ofZ w _ h ∙ (λ i. toZ-ofZ w x fx i *ℤ toZ-ofZ w y fy i)
 
--- ---- `==` and `!=` compare bits: the test's fact is `ofZ w x ≡ ofZ w y`, or that this is absurd
+-- `==` and `!=` compare bits
 pub bits-eq : {w : Width} {x y : ℤ} → SFits w x → SFits w y → ofZ w x ≡ ofZ w y → x ≡ y
 bits-eq {w} {x} {y} fx fy e = sym (toZ-ofZ w x fx) ∙ ap (toZ w) e ∙ toZ-ofZ w y fy
 
@@ -194,6 +176,7 @@ pub bits-ne : (w : Width) {x y : ℤ} → (ofZ w x ≡ ofZ w y → ⊥) → x �
 bits-ne w f e = f (ap (ofZ w) e)
 
 -- ---- a product of two whole numbers: the magnitude is the product of the magnitudes
+
 pub mul-abs : (a b : ℤ) → natAbs (a *ℤ b) ≡ natAbs a * natAbs b
 mul-abs (pos a) (pos b) = refl
 mul-abs (pos a) (negsuc b) = omega (arith, natAbs-is (negℤ (pos (a * suc b))), neg-up (pos (a * suc b)), neg-dn (pos (a * suc b)))
@@ -204,50 +187,34 @@ pub abs-le : (z : ℤ) (n : ℕ) → negℤ (pos n) ≤ℤ z → z ≤ℤ pos n 
 abs-le z n l h = omega (arith, le→, natAbs-is z, neg-up (pos n), neg-dn (pos n))
 
 pub mul-le : (a b : ℤ) (m n : ℕ) → natAbs a ≤ m → natAbs b ≤ n → natAbs (a *ℤ b) ≤ m * n
-mul-le a b m n h k = subst (λ (i : ℕ). i ≤ m * n) (sym (mul-abs a b)) (le-trans (mul-le-mul-left (natAbs a) k) (mul-le-mul-right n h))
+mul-le a b m n h k = subst (λ (i : ℕ). i ≤ m * n) (sym (mul-abs a b)) (mul-le-mul h k)
 
-pub ruleset whole = (le→, lt→, eq→, →le, →lt, →eq, →sfits, back, →nonNeg, ltZ-t, ltZ-f, leZ-t, leZ-f)
+-- ---- the order is decided, and a test's value follows from the fact
 
--- ---- the order is decided
 pub le-or-gt : (a b : ℤ) → (a ≤ℤ b) ⊎ (b <ℤ a)
-le-or-gt a b = by (leZ a b) refl
+le-or-gt a b = go (leZ a b) refl
   where
-    by : (t : Bool) → leZ a b ≡ t → (a ≤ℤ b) ⊎ (b <ℤ a)
-    by true e = inl (omega (arith, whole))
-    by false e = inr (omega (arith, whole))
+    go : (t : Bool) → leZ a b ≡ t → (a ≤ℤ b) ⊎ (b <ℤ a)
+    go true e = inl (omega (arith, whole))
+    go false e = inr (omega (arith, whole))
 
--- ---- a test's value from the fact, for a result that is a comparison
+-- a test that cannot have the other value
+only-true : (t : Bool) → (t ≡ false → ⊥) → t ≡ true
+only-true true f = refl
+only-true false f = absurd (f refl)
+
+only-false : (t : Bool) → (t ≡ true → ⊥) → t ≡ false
+only-false true f = absurd (f refl)
+only-false false f = refl
+
 pub ltZ-is : {a b : ℤ} → a <ℤ b → ltZ a b ≡ true
-ltZ-is {a} {b} h = by (ltZ a b) refl
-  where
-    by : (t : Bool) → ltZ a b ≡ t → t ≡ true
-    by true e = refl
-    by false e = absurd (omega (arith, whole))
+ltZ-is {a} {b} h = only-true (ltZ a b) (λ e. omega (arith, whole))
 
 pub ltZ-not : {a b : ℤ} → b ≤ℤ a → ltZ a b ≡ false
-ltZ-not {a} {b} h = by (ltZ a b) refl
-  where
-    by : (t : Bool) → ltZ a b ≡ t → t ≡ false
-    by true e = absurd (omega (arith, whole))
-    by false e = refl
+ltZ-not {a} {b} h = only-false (ltZ a b) (λ e. omega (arith, whole))
 
 pub leZ-is : {a b : ℤ} → a ≤ℤ b → leZ a b ≡ true
-leZ-is {a} {b} h = by (leZ a b) refl
-  where
-    by : (t : Bool) → leZ a b ≡ t → t ≡ true
-    by true e = refl
-    by false e = absurd (omega (arith, whole))
+leZ-is {a} {b} h = only-true (leZ a b) (λ e. omega (arith, whole))
 
 pub leZ-not : {a b : ℤ} → b <ℤ a → leZ a b ≡ false
-leZ-not {a} {b} h = by (leZ a b) refl
-  where
-    by : (t : Bool) → leZ a b ≡ t → t ≡ false
-    by true e = absurd (omega (arith, whole))
-    by false e = refl
-
--- ---- `x / c` of i64s, which rounds toward zero: the quotient by a positive number fits where x does
-pub quot-fits : (z : ℤ) (n : ℕ) → SFits w64 z → SFits w64 (quotZ z (pos (suc n)))
-quot-fits (pos a) n h = omega (arith, whole, sfits-up h, div-le-self a (suc n))
-quot-fits (negsuc a) n h =
-    let q = suc a / suc n in
-    omega (arith, whole, sfits-dn h, div-le-self (suc a) (suc n), neg-up (pos q), neg-dn (pos q))
+leZ-not {a} {b} h = only-false (leZ a b) (λ e. omega (arith, whole))

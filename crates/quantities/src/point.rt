@@ -3,7 +3,6 @@ ghost use mathlib.Core.Path.{_≡_};
 ghost use Rattle.quantities.specs.Reach.{Within, coordinateReach, PointWithin};
 ghost use Rattle.quantities.specs.Distance.{span, distance};
 ghost use Rattle.quantities.specs.Median.{median, medianPoint};
-
 use crate::length::Length;
 
 // A position in micrometres. Its coordinates are no lengths: they may be negative.

@@ -3,7 +3,6 @@ ghost use mathlib.Core.Path.{_≡_};
 ghost use Prim.Native.Nat.{_*_, _≤_};
 ghost use lib.IntN.{pos};
 ghost use Rattle.quantities.specs.Reach.{factorReach, lengthReach};
-
 use crate::length::Length;
 use crate::time::Time;
 

@@ -1,5 +1,5 @@
 -- The median of three. Assumes nothing.
-use mathlib.Core.Path.{_≡_, ap₂}
+use mathlib.Core.Path.{_≡_, sym, _∙_}
 use mathlib.Core.Logic.{_⊎_, inl, inr, ⊎-elim}
 use Prim.Native.Nat.{ℕ, _+_, min, max}
 use native.Mathlib.Omega.{arith}
@@ -72,3 +72,22 @@ median-in-box low high p q r f g h = record {
 pub distance-through-median : (p q r : Point) → distance p (medianPoint p q r) + distance (medianPoint p q r) q ≡ distance p q
 unfolding distance medianPoint
 distance-through-median p q r = omega (arith, span-through-median (p .x) (q .x) (r .x), span-through-median (p .y) (q .y) (r .y))
+
+-- the order of the last two does not matter: in each order of the three both medians are the middle one
+pub median-swap : (a b c : ℤ) → median a b c ≡ median a c b
+median-swap a b c = go (total a b) (total b c) (total a c)
+  where
+    same : (m : ℤ) → median a b c ≡ m → median a c b ≡ m → median a b c ≡ median a c b
+    same m e f = e ∙ sym f
+
+    go : (a ≤ℤ b) ⊎ (b ≤ℤ a) → (b ≤ℤ c) ⊎ (c ≤ℤ b) → (a ≤ℤ c) ⊎ (c ≤ℤ a) → median a b c ≡ median a c b
+    go (inl p) (inl q) r = same b (omega (arith, whole, median-is a b c)) (omega (arith, whole, median-is a c b))
+    go (inl p) (inr q) (inl r) = same c (omega (arith, whole, median-is a b c)) (omega (arith, whole, median-is a c b))
+    go (inl p) (inr q) (inr r) = same a (omega (arith, whole, median-is a b c)) (omega (arith, whole, median-is a c b))
+    go (inr p) (inl q) (inl r) = same a (omega (arith, whole, median-is a b c)) (omega (arith, whole, median-is a c b))
+    go (inr p) (inl q) (inr r) = same c (omega (arith, whole, median-is a b c)) (omega (arith, whole, median-is a c b))
+    go (inr p) (inr q) r = same b (omega (arith, whole, median-is a b c)) (omega (arith, whole, median-is a c b))
+
+pub median-point-swap : (p q r : Point) → medianPoint p q r ≡ medianPoint p r q
+unfolding medianPoint
+median-point-swap p q r = λ i. record { x = median-swap (p .x) (q .x) (r .x) i; y = median-swap (p .y) (q .y) (r .y) i }
