@@ -9,6 +9,7 @@ use Rattle.quantities.specs.declared.point.Point.{Point}
 use Rattle.quantities.specs.Order.{minℤ, maxℤ}
 use Rattle.quantities.specs.Distance.{span, distance}
 use Rattle.quantities.specs.Median.{median, medianPoint}
+use Rattle.quantities.specs.Box.{InBox}
 use Rattle.quantities.specs.Linear.{up, dn, whole}
 use Rattle.quantities.proofs.Laws.Order.{min-is, max-is, total}
 use Rattle.quantities.proofs.Laws.Distance.{span-le, span-ge}
@@ -54,11 +55,6 @@ span-through-median a b c =
     (λ h. let k : a ≤ℤ b = omega (arith, whole) in omega (arith, span-le (h .0), span-le (h .1), span-le k))
     (λ h. let k : b ≤ℤ a = omega (arith, whole) in omega (arith, span-ge (h .0), span-ge (h .1), span-ge k))
     (median-between a b c)
-
--- p lies in the box from the corner `low` to the corner `high`
-pub record InBox (low high p : Point) : Type 0 where
-  pub x : (low .x ≤ℤ p .x) × (p .x ≤ℤ high .x)
-  pub y : (low .y ≤ℤ p .y) × (p .y ≤ℤ high .y)
 
 -- the median lies in every box that the three lie in
 pub median-in-box : (low high p q r : Point) → InBox low high p → InBox low high q → InBox low high r → InBox low high (medianPoint p q r)

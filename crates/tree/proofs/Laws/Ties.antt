@@ -1,0 +1,92 @@
+-- The tie rules: of the edges that give the largest worst slack the chosen one comes first. Assumes nothing.
+use Prim.Native.Nat.{ℕ, zero, suc, _+_, _≤_, _<_}
+use mathlib.Core.Path.{_≡_, refl, sym, ap, _∙_, subst}
+use mathlib.Core.Bool.{Bool, true, false, cond}
+use mathlib.Core.Logic.{_≢_, _⊎_, inl, inr, ⊎-elim}
+use mathlib.Core.List.{List, [], _∷_}
+use native.Mathlib.Omega.{arith}
+use lib.Dec.{T, ltb, ltb→lt, nltb→le}
+use borrow.Author.Tests.{ltb-true, ltb-false}
+use lib.IntN.{ℤ}
+use lib.Signed.{_≤ℤ_, ≤ℤ-refl, ltZ}
+use Rattle.quantities.specs.Distance.{distance}
+use Rattle.quantities.specs.Linear.{up, dn, whole}
+use Rattle.tree.proofs.Laws.Planning.{best-largest, best-member}
+use Rattle.tree.proofs.Laws.Sums.{equal?, delta-ne}
+use Rattle.tree.specs.Lists.{count, delta}
+use Rattle.tree.specs.Net.{Net, sinkAt}
+use Rattle.tree.specs.Planning.{ranks, best, bestOf, lowest, unsettled}
+use Rattle.tree.specs.Tree.{place}
+
+-- u goes before v, or they have the same place, in an order that the rule decides
+module _ (f : ℕ → ℤ) (tie : ℕ → ℕ → Bool) (Le : ℕ → ℕ → Type 0) (same⊑ : (u : ℕ) → Le u u) (trans⊑ : (u v w : ℕ) → Le u v → Le v w → Le u w)
+    (says : (u v : ℕ) (t : Bool) → tie u v ≡ t → cond t (Le u v) (Le v u)) where
+  -- r is at least as good as u
+  pub record Ahead (r u : ℕ) : Type 0 where
+    pub more : f u ≤ℤ f r
+    pub tied : f u ≡ f r → Le r u
+
+  ahead-trans : (r u v : ℕ) → Ahead r u → Ahead u v → Ahead r v
+  ahead-trans r u v a b =
+      let h : f u ≤ℤ f r = a .more in
+      let k : f v ≤ℤ f u = b .more in
+      record { more = omega (arith, whole); tied = λ e. trans⊑ r u v (a .tied (omega (arith, whole))) (b .tied (omega (arith, whole))) }
+
+  ahead-one : (u v : ℕ) (t : Bool) → ranks (f u) (f v) (tie u v) ≡ t → cond t (Ahead u v) (Ahead v u)
+  ahead-one u v t e = go (ltZ (f v) (f u)) (ltZ (f u) (f v)) (tie u v) refl refl refl t e
+    where
+      go : (p q s : Bool) → ltZ (f v) (f u) ≡ p → ltZ (f u) (f v) ≡ q → tie u v ≡ s → (t : Bool) → cond p true (cond q false s) ≡ t → cond t (Ahead u v) (Ahead v u)
+      go true q s x y z true e = record { more = omega (arith, whole); tied = λ h. absurd (omega (arith, whole)) }
+      go true q s x y z false e = let z : _≡_ {A = ℕ} 0 1 = cc in absurd (omega arith)
+      go false true s x y z true e = let z : _≡_ {A = ℕ} 0 1 = cc in absurd (omega arith)
+      go false true s x y z false e = record { more = omega (arith, whole); tied = λ h. absurd (omega (arith, whole)) }
+      go false false s x y z true e = record { more = omega (arith, whole); tied = λ h. says u v true (z ∙ e) }
+      go false false s x y z false e = record { more = omega (arith, whole); tied = λ h. says u v false (z ∙ e) }
+
+  -- the chosen one is ahead of all
+  best-ahead : (v : ℕ) (l : List ℕ) → Ahead (best f tie v (f v) l) v × ((u : ℕ) → count u l ≢ 0 → Ahead (best f tie v (f v) l) u)
+  best-ahead v [] = (record { more = ≤ℤ-refl (f v); tied = λ e. same⊑ v }, λ u m. absurd (m refl))
+  best-ahead v (u ∷ l) = go (ranks (f u) (f v) (tie u v)) refl (best-ahead u l) (best-ahead v l)
+    where
+      go : (t : Bool) → ranks (f u) (f v) (tie u v) ≡ t
+          → Ahead (best f tie u (f u) l) u × ((y : ℕ) → count y l ≢ 0 → Ahead (best f tie u (f u) l) y)
+          → Ahead (best f tie v (f v) l) v × ((y : ℕ) → count y l ≢ 0 → Ahead (best f tie v (f v) l) y)
+          → Ahead (elim t [ true ↦ best f tie u (f u) l | false ↦ best f tie v (f v) l ]) v
+          × ((y : ℕ) → count y (u ∷ l) ≢ 0 → Ahead (elim t [ true ↦ best f tie u (f u) l | false ↦ best f tie v (f v) l ]) y)
+      go true e a b = (ahead-trans (best f tie u (f u) l) u v (a .0) (ahead-one u v true e), λ y m. rest y m (equal? y u))
+        where
+          rest : (y : ℕ) → delta y u + count y l ≢ 0 → (y ≡ u) ⊎ (y ≢ u) → Ahead (best f tie u (f u) l) y
+          rest y m (inl q) = subst (λ z. Ahead (best f tie u (f u) l) z) (sym q) (a .0)
+          rest y m (inr d) = a .1 y (omega (arith, delta-ne y u d))
+      go false e a b = (b .0, λ y m. rest y m (equal? y u))
+        where
+          rest : (y : ℕ) → delta y u + count y l ≢ 0 → (y ≡ u) ⊎ (y ≢ u) → Ahead (best f tie v (f v) l) y
+          rest y m (inl q) = subst (λ z. Ahead (best f tie v (f v) l) z) (sym q) (ahead-trans (best f tie v (f v) l) v u (b .0) (ahead-one u v false e))
+          rest y m (inr d) = b .1 y (omega (arith, delta-ne y u d))
+
+  pub best-first : (v : ℕ) (l : List ℕ) (u : ℕ) → count u (v ∷ l) ≢ 0 → Ahead (bestOf f tie (v ∷ l)) u
+  best-first v l u m = go (equal? u v)
+    where
+      go : (u ≡ v) ⊎ (u ≢ v) → Ahead (bestOf f tie (v ∷ l)) u
+      go (inl e) = subst (λ z. Ahead (bestOf f tie (v ∷ l)) z) (sym e) (best-ahead v l .0)
+      go (inr d) = best-ahead v l .1 u (omega (arith, delta-ne u v d))
+
+-- ---- "ties go to the edge whose lower end v has the lowest vertex number"
+
+lowest-says : (N : Net) (P : List ℕ) (s u v : ℕ) (t : Bool) → lowest N P s u v ≡ t → cond t (u ≤ v) (v ≤ u)
+lowest-says N P s u v true e = omega (arith, ltb-true u v e)
+lowest-says N P s u v false e = omega (arith, ltb-false u v e)
+
+pub lowest-law : (N : Net) (P : List ℕ) (s : ℕ) (f : ℕ → ℤ) (v : ℕ) (l : List ℕ) (u : ℕ) → count u (v ∷ l) ≢ 0 → f u ≡ f (bestOf f (lowest N P s) (v ∷ l)) → bestOf f (lowest N P s) (v ∷ l) ≤ u
+lowest-law N P s f v l u m e = best-first f (lowest N P s) _≤_ (λ u. omega arith) (λ u v w h k. omega arith) (λ u v t h. lowest-says N P s u v t h) v l u m .tied e
+
+-- ---- whatever finds a largest of lowest number finds what `bestOf` finds
+pub best-unique : (N : Net) (P : List ℕ) (s : ℕ) (f : ℕ → ℤ) (v : ℕ) (l : List ℕ) (r : ℕ) → count r (v ∷ l) ≢ 0
+    → ((u : ℕ) → count u (v ∷ l) ≢ 0 → f u ≤ℤ f r) → ((u : ℕ) → count u (v ∷ l) ≢ 0 → f u ≡ f r → r ≤ u) → r ≡ bestOf f (lowest N P s) (v ∷ l)
+best-unique N P s f v l r m top low =
+    let b : ℕ = bestOf f (lowest N P s) (v ∷ l) in
+    let mb : count b (v ∷ l) ≢ 0 = best-member f (lowest N P s) v l in
+    let h : f r ≤ℤ f b = best-largest f (lowest N P s) v l r m in
+    let k : f b ≤ℤ f r = top b mb in
+    let e : f r ≡ f b = omega (arith, whole) in
+    omega (arith, low b mb (sym e), lowest-law N P s f v l r m e)

@@ -1,0 +1,144 @@
+use Prim.Native.Nat.{ℕ, _*_, _≤_, _<_}
+use mathlib.Core.Path.{_≡_}
+use mathlib.Core.List.{List}
+use native.Mathlib.Omega.{arith}
+use borrow.Author.Needs.{needs}
+use lib.ListN.{length}
+use lib.IntN.{ℤ}
+use Rattle.tree.specs.Net.{Net}
+use Rattle.tree.specs.Planning.{lowest, planParents}
+use Rattle.tree.specs.Settling.{plan}
+use Rattle.tree.specs.Arrays.{netOf, parentsOf, HoldsTree}
+use Rattle.tree.specs.Insertion.{Ready}
+use Rattle.tree.proofs.Laws.Arrays.{size-is}
+use Rattle.tree.proofs.Laws.PlanArrays.{some-few, ready, planned-legal, planned-parents, planned-down, planned-tree, planned-holds, planned-wire}
+use Rattle.tree.proofs.plan.plan.Statement.{statement}
+use Rattle.tree.proofs.plan.plan.Tie as tie
+
+own-slacks-requires : tie.Need-own-slacks-requires
+own-slacks-requires c κs = search needs
+
+order-sinks-requires : tie.Need-order-sinks-requires
+order-sinks-requires c κs =
+    let s = c .before .before .before .before .before .before .before .before .before in
+    let a = s .args in
+    let sizes = some-few (a .h) (a .n) (a .xs .now) (a .ys .now) (a .required .now) (s .pre .0) in
+    omega (arith, sizes, c .before .before .before .own-slacks .kept)
+
+-- the net, and that the arrays are ready for insertion
+abbrev net : tie.After-insert-all-arg4 → Net
+net c = let a = c .before .before .before .before .before .before .before .before .before .before .before .before .before .before .before .before .args in netOf (a .h) (a .n) (a .xs .now) (a .ys .now) (a .required .now)
+
+ready-now : (c : tie.After-insert-all-arg4) → Ready (net c) (c .before .before .before .before .before .before .before .before .before .before .before .before .before .before .before .before .args .h) (c .before .before .before .before .before .before .before .before .before .before .before .before .before .before .before .before .args .n) (c .before .before .before .before .before .before .before .before .before .before .own-slacks .last .1 .1 .1 .1 .1 .0) (c .before .before .before .before .before .before .order-sinks .last .1 .1 .0)
+ready-now c =
+    let s = c .before .before .before .before .before .before .before .before .before .before .before .before .before .before .before .before in
+    let a = s .args in
+    let own = c .before .before .before .before .before .before .before .before .before .before .own-slacks in
+    let order = c .before .before .before .before .before .before .order-sinks in
+    ready
+    (a .h)
+    (a .n)
+    (a .xs .now)
+    (a .ys .now)
+    (a .required .now)
+    (s .pre .0)
+    (own .last .1 .1 .1 .1 .1 .0)
+    (order .last .1 .1 .0)
+    (omega (arith, own .kept))
+    (own .ensures)
+    (omega (arith, order .kept))
+    (order .ensures (net c) (size-is (a .h) (a .n) (a .xs .now) (a .ys .now) (a .required .now)) (own .ensures))
+
+insert-all-requires : tie.Need-insert-all-requires
+insert-all-requires c κs = ((net c, ready-now c), omega arith)
+
+-- the parents are the plan's
+abbrev parents : tie.After-settle-arg4 → List ℕ
+parents c = c .before .before .before .before .before .before .before .insert-all .last .1 .1 .1 .1 .1 .0
+
+parents-long : (c : tie.After-settle-arg4) → 2 * c .before .before .before .before .before .before .before .before .before .before .before .before .before .before .before .before .before .before .before .before .before .before .before .before .args .n ≤ length (parents c)
+parents-long c = omega (arith, c .before .before .before .before .before .before .before .insert-all .kept)
+
+planned : (c : tie.After-settle-arg4) → parentsOf (c .before .before .before .before .before .before .before .before .before .before .before .before .before .before .before .before .before .before .before .before .before .before .before .before .args .n) (parents c) ≡ planParents lowest (net (c .before .before .before .before .before .before .before .before))
+planned c = c .before .before .before .before .before .before .before .insert-all .ensures .0 (net (c .before .before .before .before .before .before .before .before)) (ready-now (c .before .before .before .before .before .before .before .before))
+
+settle-requires : tie.Need-settle-requires
+settle-requires c κs =
+    let s = c .before .before .before .before .before .before .before .before .before .before .before .before .before .before .before .before .before .before .before .before .before .before .before .before in
+    let a = s .args in
+    let held = s .pre .0 in
+    let ps = parents c in
+    let long = parents-long c in
+    let e = planned c in (
+      (
+        planned-parents (a .h) (a .n) (a .xs .now) (a .ys .now) (a .required .now) held ps long e,
+        planned-legal (a .h) (a .n) (a .xs .now) (a .ys .now) (a .required .now) held ps long e,
+        planned-down (a .h) (a .n) (a .xs .now) (a .ys .now) (a .required .now) held ps long e,
+      ),
+      omega (arith, c .before .before .before .before .before .before .before .before .before .before .before .before .before .before .order-sinks .kept),
+    )
+
+-- the tree is settled
+holds : (c : tie.After-wire-length-arg3) → HoldsTree (c .before .before .before .before .before .before .before .before .before .before .before .before .before .before .before .before .before .before .before .before .before .before .before .before .before .before .before .before .before .before .before .before .args .n) (parents (c .before .before .before .before .before .before .before .before)) (c .before .before .before .before .before .before .before .settle .last .1 .1 .0) (c .before .before .before .before .before .before .before .settle .last .1 .1 .1 .0)
+holds c =
+    let s = c .before .before .before .before .before .before .before .before .before .before .before .before .before .before .before .before .before .before .before .before .before .before .before .before .before .before .before .before .before .before .before .before in
+    let a = s .args in
+    let d = c .before .before .before .before .before .before .before .before in
+    let settle = c .before .before .before .before .before .before .before .settle in
+    planned-holds (a .h) (a .n) (a .xs .now) (a .ys .now) (a .required .now) (s .pre .0) (parents d) (parents-long d) (planned d) (settle .last .1 .1 .0) (settle .last .1 .1 .1 .0) (omega (arith, settle .kept)) (omega (arith, settle .kept)) (settle .ensures .0 (a .h) (a .required .now)) (settle .ensures .1)
+
+wire-length-requires : tie.Need-wire-length-requires
+wire-length-requires c κs = holds c
+
+same-length : tie.Need-same-length
+same-length c = search needs
+
+same-length-2 : tie.Need-same-length-2
+same-length-2 c = search needs
+
+same-length-3 : tie.Need-same-length-3
+same-length-3 c = search needs
+
+same-length-4 : tie.Need-same-length-4
+same-length-4 c = search needs
+
+same-length-5 : tie.Need-same-length-5
+same-length-5 c = search needs
+
+same-length-6 : tie.Need-same-length-6
+same-length-6 c = search needs
+
+returns : tie.Need-returns
+unfolding plan
+returns c =
+    let s = c .before .before .before .before .before .before .before .before .before .before .before .before .before .before .before .before .before .before .before .before .before .before .before .before .before .before .before .before .before .before .before .before .before in
+    let a = s .args in
+    let d = c .before .before .before .before .before .before .before .before .before in
+    let settle = c .before .before .before .before .before .before .before .before .settle in
+    let tree = settle .ensures .0 (a .h) (a .required .now) in (
+      planned-tree (a .h) (a .n) (a .xs .now) (a .ys .now) (a .required .now) (s .pre .0) (parents d) (parents-long d) (planned d) (settle .last .1 .1 .0) (settle .last .1 .1 .1 .0) (omega (arith, settle .kept)) (omega (arith, settle .kept)) tree (settle .ensures .1),
+      (
+        settle .ensures .1,
+        (
+          c .before .before .before .before .before .before .before .before .before .before .before .before .before .before .before .before .insert-all .ensures .1 (net (c .before .before .before .before .before .before .before .before .before .before .before .before .before .before .before .before .before)) (ready-now (c .before .before .before .before .before .before .before .before .before .before .before .before .before .before .before .before .before)),
+          planned-wire (a .h) (a .n) (a .xs .now) (a .ys .now) (a .required .now) (s .pre .0) (parents d) (parents-long d) (planned d) (settle .last .1 .1 .0) (settle .last .1 .1 .1 .0) (omega (arith, settle .kept)) (omega (arith, settle .kept)) tree (settle .ensures .1) _ (c .wire-length .ensures (a .h) (a .required .now)),
+        ),
+      ),
+    )
+
+pub plan-spec : {M : Type 1} → statement M
+plan-spec =
+    tie.close
+    (tie.spec
+    own-slacks-requires
+    order-sinks-requires
+    insert-all-requires
+    settle-requires
+    wire-length-requires
+    same-length
+    same-length-2
+    same-length-3
+    same-length-4
+    same-length-5
+    same-length-6
+    returns)

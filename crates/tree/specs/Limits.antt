@@ -1,0 +1,46 @@
+-- The ranges of document 01, 'The net text' and 'The tree listing', each once. Definitions alone.
+use Prim.Native.Nat.{ℕ, _≤_}
+use lib.IntN.{ℤ}
+use Rattle.quantities.specs.Reach.{Within, PointWithin}
+use Rattle.tree.specs.Net.{Net, size, sinkAt, required}
+
+-- "X and Y -100,000 to 100,000"
+abbrev pub positionLimit : ℕ
+positionLimit = 100_000
+
+-- "c 1 to 1,000,000"
+abbrev pub branchLimit : ℕ
+branchLimit = 1_000_000
+
+-- "d 1 to 10,000"
+abbrev pub wireFactorLimit : ℕ
+wireFactorLimit = 10_000
+
+-- "t -2,000,000,000,000 to 2,000,000,000,000"
+abbrev pub needLimit : ℕ
+needLimit = 2_000_000_000_000
+
+-- "n 1 to 512"
+abbrev pub sinkLimit : ℕ
+sinkLimit = 512
+
+-- "a (required arrival) -1,000,000,000,000 to 1,000,000,000,000"
+abbrev pub requiredLimit : ℕ
+requiredLimit = 1_000_000_000_000
+
+-- "W -4,000,000,000,000 to 4,000,000,000,000"
+abbrev pub slackLimit : ℕ
+slackLimit = 4_000_000_000_000
+
+-- "L 0 to 1,000,000,000"
+abbrev pub wireLimit : ℕ
+wireLimit = 1_000_000_000
+
+pub record InRange (N : Net) : Type 0 where
+  pub root : PointWithin positionLimit (N .root)
+  pub branch : (1 ≤ N .branch) × (N .branch ≤ branchLimit)
+  pub wire : (1 ≤ N .wire) × (N .wire ≤ wireFactorLimit)
+  pub need : Within needLimit (N .need)
+  pub sinks : (1 ≤ size N) × (size N ≤ sinkLimit)
+  pub at : (s : ℕ) → 1 ≤ s → s ≤ size N → PointWithin positionLimit (sinkAt N s)
+  pub required : (s : ℕ) → 1 ≤ s → s ≤ size N → Within requiredLimit (required N s)

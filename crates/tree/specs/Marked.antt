@@ -1,0 +1,77 @@
+-- The marked nets of document 01, and what it says of them, as far as it needs no text: one statement.
+use Prim.Native.Nat.{ℕ, _<_}
+use mathlib.Core.Path.{_≡_}
+use mathlib.Core.List.{List, [], _∷_}
+use mathlib.Core.Option.{some, none}
+use lib.IntN.{ℤ, pos, negℤ}
+use lib.Signed.{_<ℤ_}
+use Rattle.quantities.specs.declared.point.Point.{Point}
+use Rattle.quantities.specs.Median.{medianPoint}
+use Rattle.tree.specs.Net.{Net, Sink, ownSlacks}
+use Rattle.tree.specs.Tree.{Tree, Legal, LegalTree}
+use Rattle.tree.specs.Measures.{worstSlack, wireLength}
+use Rattle.tree.specs.Kraft.{IsKraftMaximum}
+use Rattle.tree.specs.Settling.{plan}
+use Rattle.tree.specs.Defects.{wrongChildren, unreached}
+
+abbrev pub at : ℤ → ℤ → Point
+at x y = record { x = x; y = y }
+
+abbrev pub sink : ℤ → ℤ → ℤ → Sink
+sink x y a = record { at = at x y; required = a }
+
+-- "A: `root=0,0`, `branch=20`, `wire=2`, `need=0`, `sinks=3`, `sink=10,0,100`, `sink=4,6,60`, `sink=10,10,70`."
+abbrev pub netA : Net
+netA = record {
+  root = at (pos 0) (pos 0);
+  branch = 20;
+  wire = 2;
+  need = pos 0;
+  sinks = sink (pos 10) (pos 0) (pos 100) ∷ (sink (pos 4) (pos 6) (pos 60) ∷ (sink (pos 10) (pos 10) (pos 70) ∷ []));
+}
+
+-- "Three sinks at the root 0,0 with a = 0, c = 20, d = 2, t = -40"
+abbrev pub threeAtRoot : Net
+threeAtRoot = record {
+  root = at (pos 0) (pos 0);
+  branch = 20;
+  wire = 2;
+  need = negℤ (pos 40);
+  sinks = sink (pos 0) (pos 0) (pos 0) ∷ (sink (pos 0) (pos 0) (pos 0) ∷ (sink (pos 0) (pos 0) (pos 0) ∷ []));
+}
+
+-- "One sink 3,4 from 0,0 with a = 10, d = 2"
+abbrev pub oneSink : ℕ → Net
+oneSink c = record { root = at (pos 0) (pos 0); branch = c; wire = 2; need = pos 0; sinks = sink (pos 3) (pos 4) (pos 10) ∷ [] }
+
+-- "Two sinks of own slack 5, c = 3"
+abbrev pub twoSinks : Net
+twoSinks = record { root = at (pos 0) (pos 0); branch = 3; wire = 2; need = pos 0; sinks = sink (pos 1) (pos 0) (pos 7) ∷ (sink (pos 0) (pos 0) (pos 5) ∷ []) }
+
+pub record Marked : Type 0 where
+  -- A: "Own slacks 80, 40, 30", its listing's parents and points, slack 0 and wire 32, and best 0
+  pub A-own : ownSlacks netA ≡ pos 80 ∷ (pos 40 ∷ (pos 30 ∷ []))
+  pub A-tree : plan netA ≡ record { parents = 5 ∷ (5 ∷ (4 ∷ (0 ∷ (4 ∷ [])))); points = at (pos 4) (pos 0) ∷ (at (pos 4) (pos 0) ∷ []) }
+  pub A-slack : worstSlack netA (plan netA) ≡ pos 0
+  pub A-wire : wireLength netA (plan netA) ≡ 32
+  pub A-best : IsKraftMaximum (netA .branch) (ownSlacks netA) (pos 0)
+  -- "A with `need=1`: 5,1,4": no legal tree has worst slack 1 or more
+  pub A-need : (R : Tree) → LegalTree netA R → worstSlack netA R <ℤ pos 1
+  -- three sinks at the root: "slack -40, wire 0, .. parents of 1 to 5 are 5, 4, 5, 0, 4"
+  pub three-slack : worstSlack threeAtRoot (plan threeAtRoot) ≡ negℤ (pos 40)
+  pub three-wire : wireLength threeAtRoot (plan threeAtRoot) ≡ 0
+  pub three-parents : plan threeAtRoot .parents ≡ 5 ∷ (4 ∷ (5 ∷ (0 ∷ (4 ∷ []))))
+  -- one sink: "slack -4, wire 7, Kraft maximum -4 whatever c"
+  pub one-slack : (c : ℕ) → worstSlack (oneSink c) (plan (oneSink c)) ≡ negℤ (pos 4)
+  pub one-wire : (c : ℕ) → wireLength (oneSink c) (plan (oneSink c)) ≡ 7
+  pub one-best : (c : ℕ) → 0 < c → IsKraftMaximum c (ownSlacks (oneSink c)) (negℤ (pos 4))
+  -- two sinks: "slack 2"
+  pub two-slack : worstSlack twoSinks (plan twoSinks) ≡ pos 2
+  -- "The median of 0,0 and 4,6 and 10,0 is 4,0."
+  pub median-of-three : medianPoint (at (pos 0) (pos 0)) (at (pos 4) (pos 6)) (at (pos 10) (pos 0)) ≡ at (pos 4) (pos 0)
+  -- "n = 3, parents of 1 to 5 are 0, 4, 5, 5, 4: 10,2,5": the counts are right, vertex 2 is not reached, so the tree is not legal
+  pub ring-counts : wrongChildren 3 (0 ∷ (4 ∷ (5 ∷ (5 ∷ (4 ∷ []))))) ≡ none
+  pub ring-unreached : unreached 3 (0 ∷ (4 ∷ (5 ∷ (5 ∷ (4 ∷ []))))) ≡ some 2
+  pub ring-illegal : Legal 3 (0 ∷ (4 ∷ (5 ∷ (5 ∷ (4 ∷ []))))) → ⊥
+  -- "n = 3, parents 4, 4, 4, 0, 4: 9,2,7": vertex 4 has a wrong number of children
+  pub star-counts : wrongChildren 3 (4 ∷ (4 ∷ (4 ∷ (0 ∷ (4 ∷ []))))) ≡ some 4

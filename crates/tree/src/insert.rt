@@ -1,0 +1,130 @@
+// Steps 2 and 3 of planning: the sinks go in one after another, each by splitting the edge that leaves the largest worst slack.
+ghost use mathlib.Core.Path.{_≡_};
+ghost use mathlib.Core.Bool.{cond};
+ghost use Prim.Native.Nat.{ℕ, suc, _+_, _*_, _≤_, _<_};
+ghost use lib.ListN.{length, getD, set, take};
+ghost use lib.Dec.{ltb};
+ghost use lib.IntN.{ℤ, pos, _+ℤ_, _-ℤ_};
+ghost use Rattle.quantities.specs.Reach.{Within, termReach};
+ghost use Rattle.quantities.specs.Order.{minℤ};
+ghost use Rattle.tree.specs.Net.{Net};
+ghost use Rattle.tree.specs.Measures.{worstSlack};
+ghost use Rattle.tree.specs.Planning.{bestOf, ranks, lowest, planParents};
+ghost use Rattle.tree.specs.Settling.{planBy};
+ghost use Rattle.tree.specs.Arrays.{parentsOf};
+ghost use Rattle.tree.specs.Insertion.{Ready, Inserted, score};
+use crate::header::Header;
+use crate::places::clear;
+use quantities::time::Time;
+
+// What the worst slack becomes if the edge to sink u is split. The new sink is never worse off than u: its own slack is no less.
+fn score_of(slacks: &[i64], worst: Time, branch: Time, u: usize) -> Time
+    requires { ⌜ (u < length (now slacks)) × Within termReach (getD (now slacks) u (pos 0)) × Within termReach (branch .0) ⌝ }
+    ensures { λ r. ⌜ r .0 ≡ score (worst .0) (branch .0) (now (slacks .entry)) u ⌝ }
+{
+    worst.least(Time::of(slacks[u]).minus(branch))
+}
+
+// Which of two sinks' edges is split rather: the one of larger score, on a tie the one of lower number.
+fn better(slacks: &[i64], worst: Time, branch: Time, v: usize, u: usize) -> usize
+    requires { ⌜ (u < length (now slacks)) × Within termReach (getD (now slacks) u (pos 0)) × Within termReach (branch .0) ⌝ }
+    requires { ⌜ (v < length (now slacks)) × Within termReach (getD (now slacks) v (pos 0)) ⌝ }
+    ensures { λ r. ⌜ r ≡ cond (ranks (score (worst .0) (branch .0) (now (slacks .entry)) u) (score (worst .0) (branch .0) (now (slacks .entry)) v) (ltb u v)) u v ⌝ }
+{
+    let a = score_of(slacks, worst, branch, u);
+    let b = score_of(slacks, worst, branch, v);
+    if b.is_less(a) {
+        return u;
+    }
+    if a.is_less(b) {
+        return v;
+    }
+    if u < v { u } else { v }
+}
+
+// The sink whose edge is split: the best of the first k + 1.
+fn choose(k: usize, sinks: &[usize], slacks: &[i64], worst: Time, branch: Time) -> usize
+    requires { ⌜ (k < length (now sinks)) × Within termReach (branch .0) ⌝ }
+    requires { ⌜ ((i : ℕ) → i ≤ k → (getD (now sinks) i 0 < length (now slacks)) × Within termReach (getD (now slacks) (getD (now sinks) i 0) (pos 0))) ⌝ }
+    ensures { λ r. ⌜ r ≡ bestOf (score (worst .0) (branch .0) (now (slacks .entry))) ltb (take (suc k) (now (sinks .entry))) ⌝ }
+{
+    let mut best = sinks[0];
+    let mut i = 1;
+    while i <= k {
+        best = better(slacks, worst, branch, best, sinks[i]);
+        i += 1;
+    }
+    best
+}
+
+// Splits the edge above v: branch point b takes its place, and v and sink s hang on b.
+fn split_edge(parents: &mut [usize], b: usize, v: usize, s: usize)
+    requires { ⌜ (b < length (now parents)) × (v < length (now parents)) × (s < length (now parents)) ⌝ }
+    ensures { λ r. ⌜ now (parents .exit) ≡ set (set (set (now (parents .entry)) b (getD (now (parents .entry)) v 0)) v b) s b ⌝ }
+{
+    parents[b] = parents[v];
+    parents[v] = b;
+    parents[s] = b;
+}
+
+// The slacks after the split of the edge to sink v: v has one branch point more above it, and sink s as many as v.
+fn deepen(own: &[i64], slacks: &mut [i64], branch: Time, v: usize, s: usize)
+    requires { ⌜ (v < length (now own)) × (s < length (now own)) × (v < length (now slacks)) × (s < length (now slacks)) ⌝ }
+    requires { ⌜ Within termReach (branch .0) × Within termReach (getD (now slacks) v (pos 0)) × Within termReach (getD (now own) v (pos 0)) × Within termReach (getD (now own) s (pos 0)) ⌝ }
+    ensures { λ r. ⌜ now (slacks .exit) ≡ set (set (now (slacks .entry)) v (getD (now (slacks .entry)) v (pos 0) -ℤ branch .0)) s (getD (now (own .entry)) s (pos 0) -ℤ getD (now (own .entry)) v (pos 0) +ℤ (getD (now (slacks .entry)) v (pos 0) -ℤ branch .0)) ⌝ }
+{
+    let lowered = Time::of(slacks[v]).minus(branch);
+    let more = Time::of(own[s]).minus(Time::of(own[v]));
+    slacks[v] = lowered.value();
+    slacks[s] = more.plus(lowered).value();
+}
+
+// Insertion k + 1: the next sink goes in. The worst slack is returned.
+fn insert_next(
+    h: Header,
+    n: usize,
+    k: usize,
+    own: &[i64],
+    sinks: &[usize],
+    slacks: &mut [i64],
+    parents: &mut [usize],
+    worst: Time,
+) -> Time
+    requires { ⌜ ((N : Net) × (Ready N h n (now own) (now sinks) × Inserted N k (now slacks) (now parents) (worst .0))) ⌝ }
+    requires { ⌜ (suc k < n) × (n < length (now slacks)) × (2 * n ≤ length (now parents)) ⌝ }
+    ensures { λ r. ⌜ ((N : Net) → Ready N h n (now (own .entry)) (now (sinks .entry)) → Inserted N k (now (slacks .entry)) (now (parents .entry)) (worst .0) → Inserted N (suc k) (now (slacks .exit)) (now (parents .exit)) (r .0)) ⌝ }
+{
+    let branch = h.branch;
+    let v = choose(k, sinks, slacks, worst, branch);
+    let next = score_of(slacks, worst, branch, v);
+    let s = sinks[k + 1];
+    split_edge(parents, n + k + 1, v, s);
+    deepen(own, slacks, branch, v, s);
+    next
+}
+
+// All sinks go in, in their order. The worst slack of the tree is returned; `slacks` is room for the slacks.
+pub fn insert_all(
+    h: Header,
+    n: usize,
+    own: &[i64],
+    sinks: &[usize],
+    slacks: &mut [i64],
+    parents: &mut [usize],
+) -> Time
+    requires { ⌜ ((N : Net) × Ready N h n (now own) (now sinks)) ⌝ }
+    requires { ⌜ (n < length (now slacks)) × (2 * n ≤ length (now parents)) ⌝ }
+    ensures tree { λ r. ⌜ ((N : Net) → Ready N h n (now (own .entry)) (now (sinks .entry)) → parentsOf n (now (parents .exit)) ≡ planParents lowest N) ⌝ }
+    ensures worst { λ r. ⌜ ((N : Net) → Ready N h n (now (own .entry)) (now (sinks .entry)) → r .0 ≡ worstSlack N (planBy lowest N)) ⌝ }
+{
+    clear(parents, 2 * n);
+    let first = sinks[0];
+    slacks[first] = own[first];
+    let mut worst = Time::of(own[first]);
+    let mut k = 0;
+    while k + 1 < n {
+        worst = insert_next(h, n, k, own, sinks, slacks, parents, worst);
+        k += 1;
+    }
+    worst
+}
