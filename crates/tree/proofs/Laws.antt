@@ -25,6 +25,7 @@ pub mod Steps
 pub mod Downward
 pub mod Defects
 pub mod Limits
+pub mod Stated
 pub mod Places
 pub mod Children
 pub mod SettleLoop

@@ -10,7 +10,7 @@ use Rattle.quantities.specs.Median.{medianPoint}
 use Rattle.quantities.specs.Reach.{PointWithin}
 use Rattle.tree.specs.declared.header.Header.{Header}
 use Rattle.tree.specs.Lists.{range}
-use Rattle.tree.specs.Net.{Net, Sink, sinkNumbers, branchNumbers}
+use Rattle.tree.specs.Net.{Net, sinkNumbers, branchNumbers}
 use Rattle.tree.specs.Tree.{Tree}
 use Rattle.tree.specs.Limits.{positionLimit, sinkLimit, InRange}
 

@@ -1,7 +1,7 @@
 -- What makes a tree illegal, as judge looks for it: document 01, the refusals 9 and 10. Definitions alone.
-use Prim.Native.Nat.{ℕ, zero, suc, _+_, _*_, _-_}
+use Prim.Native.Nat.{ℕ, zero, suc, _*_, _-_}
 use mathlib.Core.Bool.{not}
-use mathlib.Core.List.{List, [], _∷_}
+use mathlib.Core.List.{List, _∷_}
 use mathlib.Core.Option.{Option}
 use lib.Dec.{eqb}
 use Rattle.tree.specs.Lists.{count, range, firstWith}

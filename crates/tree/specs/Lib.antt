@@ -6,6 +6,7 @@ pub mod Measures
 pub mod Kraft
 pub mod Planning
 pub mod Settling
+pub mod Theorem1
 pub mod Defects
 pub mod Limits
 pub mod Arrays

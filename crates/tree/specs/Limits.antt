@@ -1,6 +1,5 @@
 -- The ranges of document 01, 'The net text' and 'The tree listing', each once. Definitions alone.
 use Prim.Native.Nat.{ℕ, _≤_}
-use lib.IntN.{ℤ}
 use Rattle.quantities.specs.Reach.{Within, PointWithin}
 use Rattle.tree.specs.Net.{Net, size, sinkAt, required}
 

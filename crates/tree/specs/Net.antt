@@ -1,6 +1,6 @@
 -- The net: document 01, 'The net text' and 'Measures'. Definitions alone.
 use Prim.Native.Nat.{ℕ, zero, suc, _*_, _-_}
-use mathlib.Core.List.{List, [], _∷_, map}
+use mathlib.Core.List.{List, _∷_, map}
 use lib.ListN.{length, getD}
 use lib.IntN.{ℤ, pos, _-ℤ_}
 use Rattle.quantities.specs.declared.point.Point.{Point}

@@ -1,7 +1,7 @@
 -- The tree, and which trees are legal: document 01, 'Measures'. Definitions alone.
 use Prim.Native.Nat.{ℕ, zero, suc, _*_, _-_, _≤_, _<_}
 use mathlib.Core.Path.{_≡_}
-use mathlib.Core.List.{List, [], _∷_, _++_, map}
+use mathlib.Core.List.{List, _∷_, _++_, map}
 use lib.ListN.{length, getD}
 use Rattle.quantities.specs.declared.point.Point.{Point}
 use Rattle.tree.specs.Lists.{count}

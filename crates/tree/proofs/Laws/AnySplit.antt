@@ -1,15 +1,13 @@
 -- Splitting the edge to any vertex x: every vertex at or below x gets one branch point more above it, and no other changes. Assumes nothing.
-use mathlib.Core.Path.{_≡_, refl, sym, ap, ap₂, _∙_, subst}
+use mathlib.Core.Path.{_≡_, refl, sym, ap, _∙_}
 use mathlib.Core.Logic.{_≢_, _⊎_, inl, inr}
-use mathlib.Core.List.{List, [], _∷_}
-use Prim.Native.Nat.{ℕ, zero, suc, _+_, _-_, _*_, _≤_, _<_, zero-le}
-use native.Mathlib.Nat.{add-zero, zero-add, le-refl, le-trans}
+use mathlib.Core.List.{List}
+use Prim.Native.Nat.{ℕ, zero, suc, _+_, _≤_, _<_}
 use native.Mathlib.Omega.{arith}
-use Rattle.tree.proofs.Laws.Growing.{PartTree, Split, Inner, parent-inner, inner-up, inner-reach, hops-suc, hops-up, hops-down, member, inner-ne, stays, above, past}
-use Rattle.tree.proofs.Laws.Walks.{ancestor-more}
+use Rattle.tree.proofs.Laws.Growing.{PartTree, Split, Inner, parent-inner, inner-up, inner-reach, hops-suc, hops-down, member, inner-ne, stays, above, past}
 use Rattle.tree.proofs.Laws.Sums.{delta-self, delta-ne, equal?}
 use Rattle.tree.proofs.Laws.Walks.{hops, hops-stable, hops-zero}
-use Rattle.tree.specs.Lists.{sumOver, delta, count, down}
+use Rattle.tree.specs.Lists.{delta, count, down}
 use Rattle.tree.specs.Tree.{ancestor}
 
 -- how often x is met on j steps up from y

@@ -1,22 +1,15 @@
--- The best of a list, element by element, and that the order of the list is nothing to it. Assumes nothing.
-use Prim.Native.Nat.{ℕ, suc, _+_, _≤_, _<_}
-use mathlib.Core.Path.{_≡_, refl, sym, ap, _∙_}
+-- The best of a list, found element by element. Assumes nothing.
+use Prim.Native.Nat.{ℕ, suc, _+_, _<_}
+use mathlib.Core.Path.{_≡_, refl, ap, _∙_}
 use mathlib.Core.Bool.{Bool, true, false, cond}
-use mathlib.Core.Logic.{_≢_}
 use mathlib.Core.List.{List, [], _∷_}
 use native.Mathlib.Omega.{arith}
 use native.Mathlib.Numerals.{add-one}
-use lib.ListN.{length, getD, take, drop, length-take}
-use lib.Seq.{drop-cons, getD-take}
-use lib.Dec.{ltb}
+use lib.ListN.{length, getD, drop}
+use lib.Seq.{drop-cons}
 use lib.IntN.{ℤ}
-use lib.Signed.{_≤ℤ_, ltZ}
-use Rattle.quantities.specs.Linear.{whole}
-use Rattle.tree.specs.Lists.{count}
-use Rattle.tree.specs.Net.{Net}
-use Rattle.tree.specs.Planning.{ranks, best, bestOf, lowest}
-use Rattle.tree.proofs.Laws.Planning.{best-member, best-largest}
-use Rattle.tree.proofs.Laws.Ties.{lowest-law}
+use lib.Signed.{ltZ}
+use Rattle.tree.specs.Planning.{ranks, best, bestOf}
 
 -- ---- what a comparison comes to
 
@@ -48,17 +41,3 @@ module _ (f : ℕ → ℤ) (tie : ℕ → ℕ → Bool) (l : List ℕ) where
 
   pub best-next : (v i : ℕ) → i < length l → best f tie v (f v) (drop i l) ≡ best f tie (cond (ranks (f (getD l i 0)) (f v) (tie (getD l i 0) v)) (getD l i 0) v) (f (cond (ranks (f (getD l i 0)) (f v) (tie (getD l i 0) v)) (getD l i 0) v)) (drop (i + 1) l)
   best-next v i h = ap (best f tie v (f v)) (drop-cons l i 0 h) ∙ rw add-one (best-cons v (getD l i 0) (drop (suc i) l))
-
--- ---- two lists of the same elements have the same best
-
-pub best-bag : (N : Net) (P : List ℕ) (s : ℕ) (f : ℕ → ℤ) (x : ℕ) (l : List ℕ) (y : ℕ) (r : List ℕ) → ((v : ℕ) → count v (x ∷ l) ≡ count v (y ∷ r))
-    → bestOf f (lowest N P s) (x ∷ l) ≡ bestOf f (lowest N P s) (y ∷ r)
-best-bag N P s f x l y r same =
-    let a : ℕ = bestOf f (lowest N P s) (x ∷ l) in
-    let b : ℕ = bestOf f (lowest N P s) (y ∷ r) in
-    let ma : count a (y ∷ r) ≢ 0 = omega (arith, same a, best-member f (lowest N P s) x l) in
-    let mb : count b (x ∷ l) ≢ 0 = omega (arith, same b, best-member f (lowest N P s) y r) in
-    let h : f b ≤ℤ f a = best-largest f (lowest N P s) x l b mb in
-    let k : f a ≤ℤ f b = best-largest f (lowest N P s) y r a ma in
-    let e : f a ≡ f b = omega (arith, whole) in
-    omega (arith, lowest-law N P s f x l b mb (sym e), lowest-law N P s f y r a ma e)

@@ -1,12 +1,11 @@
 -- What is proved of the judge's counts: they find nothing just where the tree is legal, and else the lowest. Assumes nothing.
-use Prim.Native.Nat.{ℕ, zero, suc, _+_, _*_, _-_, _≤_, _<_, zero-le}
+use Prim.Native.Nat.{ℕ, zero, suc, _+_, _*_, _-_, _≤_, _<_}
 use mathlib.Core.Path.{_≡_, refl, sym, ap, _∙_, subst}
 use mathlib.Core.Bool.{Bool, true, false, cond, not}
-use mathlib.Core.Logic.{_≢_, _⊎_, inl, inr, ⊎-elim, _↔_}
+use mathlib.Core.Logic.{_≢_, _⊎_, inl, inr, ⊎-elim}
 use mathlib.Core.List.{List, [], _∷_}
-use mathlib.Core.Option.{Option, none, some}
+use mathlib.Core.Option.{none, some}
 use native.Mathlib.Omega.{arith}
-use native.Mathlib.Decide.{ℕ-discrete}
 use lib.ListN.{length, getD}
 use lib.Dec.{T, eqb, eqb→eq, eqb-refl}
 use Rattle.tree.proofs.Laws.Walks.{ancestor-top}
@@ -15,7 +14,7 @@ use Rattle.tree.proofs.Laws.Planning.{sumOver-range}
 use Rattle.tree.proofs.Laws.Reach.{legal-reach}
 use Rattle.tree.proofs.Laws.Sums.{equal?, delta-self, delta-ne, down-in, down-once}
 use Rattle.tree.specs.Defects.{dueChildren, wrongChildren, unreached}
-use Rattle.tree.specs.Lists.{sumOver, delta, count, down, range, firstWith}
+use Rattle.tree.specs.Lists.{delta, count, down, range, firstWith}
 use Rattle.tree.specs.Net.{branchNumbers}
 use Rattle.tree.specs.Tree.{parentOf, ancestor, Legal}
 

@@ -1,21 +1,15 @@
 -- Under document 01's tie rule every branch point of the planned tree has a lower number than the branch points below it: so settling may go by falling number.
 -- And where a branch point settles, by where its two children settle. For the program. Assumes nothing.
-use Prim.Native.Nat.{ℕ, zero, suc, _+_, _*_, _-_, _≤_, _<_, zero-le}
+use Prim.Native.Nat.{ℕ, zero, suc, _+_, _*_, _-_, _≤_, _<_}
 use mathlib.Core.Path.{_≡_, refl, sym, ap, ap₂, _∙_, subst}
-use mathlib.Core.Logic.{_≢_, _⊎_, inl, inr, ⊎-elim}
-use mathlib.Core.List.{List, [], _∷_, _++_, map}
+use mathlib.Core.Logic.{_≢_, _⊎_, inl, inr}
+use mathlib.Core.List.{List, [], _∷_, map}
 use native.Mathlib.Omega.{arith}
 use lib.ListN.{length, getD, take, drop, replicate, length-replicate}
-use lib.IntN.{ℤ, pos}
 use lib.Signed.{_≤ℤ_}
-use Rattle.quantities.proofs.Laws.Median.{median-is}
-use Rattle.quantities.proofs.Laws.Order.{total, min-is, max-is}
-use Rattle.quantities.specs.Linear.{up, dn, whole}
-use Rattle.quantities.specs.Median.{median, medianPoint}
-use Rattle.quantities.specs.Order.{minℤ, maxℤ}
-use Rattle.quantities.specs.declared.point.Point.{Point}
+use Rattle.quantities.specs.Median.{medianPoint}
 use Rattle.tree.proofs.Laws.Growing.{Inner, Split, parent-inner}
-use Rattle.tree.proofs.Laws.Insertion.{Least, Grown, start, splits}
+use Rattle.tree.proofs.Laws.Insertion.{Grown, start, splits}
 use Rattle.tree.proofs.Laws.Planning.{Rising, step, least-law, order-length, order-count, order-rising, take-all}
 use Rattle.tree.proofs.Laws.Scan.{chosen-sink}
 use Rattle.tree.proofs.Laws.Settling.{child, hop-child, stable, at-settled, settled-branch}
@@ -23,9 +17,9 @@ use Rattle.tree.proofs.Laws.Sums.{equal?, delta-self, delta-ne, down-in
 use Rattle.tree.proofs.Laws.WorstAfter.{before}
 use Rattle.tree.specs.Lists.{delta, count, down, least}
 use Rattle.tree.specs.Net.{Net, size, ownSlack}
-use Rattle.tree.specs.Planning.{split, lowest, order, chosen, insertAll, parentsAfter, planParents}
+use Rattle.tree.specs.Planning.{split, lowest, order, chosen, insertAll, planParents}
 use Rattle.tree.specs.Settling.{children, settled, settledTree}
-use Rattle.tree.specs.Tree.{Tree, parentOf, Legal, place}
+use Rattle.tree.specs.Tree.{parentOf, Legal, place}
 
 -- each branch point's parent has a lower number
 abbrev pub Downward : ℕ → ℕ → List ℕ → Type 0

@@ -1,13 +1,10 @@
--- The order of the integers by differences: a is at least σ where it is σ + t, and the gap t is the distance. Assumes nothing.
-use mathlib.Core.Path.{_≡_, refl, sym, ap, ap₂, _∙_, subst}
-use mathlib.Core.Logic.{_≢_, _⊎_, inl, inr}
+-- The order of whole numbers by differences: a is at least σ where it is σ + t, and the gap t is the distance. Assumes nothing.
+use mathlib.Core.Path.{_≡_, refl, sym, ap, _∙_}
 use mathlib.Core.Bool.{Bool, true, false, not, cond}
-use Prim.Native.Nat.{ℕ, zero, suc, _+_, _-_, _*_, _/_, _≤_, _<_, zero-le}
-use native.Mathlib.Nat.{add-zero, zero-add, add-comm, le-refl, le-trans, le-of-eq}
-use native.Mathlib.Decide.{decLe}
+use Prim.Native.Nat.{ℕ, suc, _+_, _-_, _≤_, _<_}
 use native.Mathlib.Omega.{arith}
-use lib.Dec.{T, ltb, leb, leb→le, le→leb, ltb→lt, nltb→le}
-use lib.IntN.{ℤ, pos, negsuc, negℤ, subℕ, natAbs, _+ℤ_, _-ℤ_, +ℤ-assoc, +ℤ-comm, +ℤ-idr, +ℤ-idl, +ℤ-invr, +ℤ-invl, +ℤ-negℤ-cancel, -ℤ-+ℤ-cancel, negℤ-+ℤ}
+use lib.Dec.{T, ltb, leb→le, le→leb, ltb→lt, nltb→le}
+use lib.IntN.{ℤ, pos, negsuc, subℕ, natAbs, _+ℤ_, _-ℤ_, +ℤ-assoc, +ℤ-comm, +ℤ-negℤ-cancel, -ℤ-+ℤ-cancel}
 use lib.Signed.{_≤ℤ_, leZ}
 
 cond-ind : (c : Bool) (x y : ℤ) (P : ℤ → Type 0) → (T c → P x) → (T (not c) → P y) → P (cond c x y)
@@ -19,9 +16,6 @@ sub-ge a b h = cond-ind (ltb a b) (negsuc (b - suc a)) (pos (a - b)) (λ z. z �
 
 sub-lt : (a b : ℕ) → a < b → subℕ a b ≡ negsuc (b - suc a)
 sub-lt a b h = cond-ind (ltb a b) (negsuc (b - suc a)) (pos (a - b)) (λ z. z ≡ negsuc (b - suc a)) (λ u. refl) (λ u. absurd (omega (arith, nltb→le a b u)))
-
-sub-abs : (a b : ℕ) → natAbs (subℕ a b) ≤ a + b
-sub-abs a b = cond-ind (ltb a b) (negsuc (b - suc a)) (pos (a - b)) (λ z. natAbs z ≤ a + b) (λ u. omega (arith, ltb→lt a b u)) (λ u. omega arith)
 
 -- the gap from σ up to a
 abbrev pub gap : ℤ → ℤ → ℕ

@@ -1,13 +1,13 @@
 -- A tree that grows: its sinks a list S, its branch points N + 1 .. N + k, its parents a function. Kraft's equality for it, and how it changes
 -- where an edge is split. Assumes nothing.
-use mathlib.Core.Path.{_≡_, refl, sym, ap, ap₂, _∙_, subst}
+use mathlib.Core.Path.{_≡_, refl, ap, _∙_}
 use mathlib.Core.Logic.{_≢_, _⊎_, inl, inr}
-use mathlib.Core.List.{List, [], _∷_}
+use mathlib.Core.List.{List, _∷_}
 use Prim.Native.Nat.{ℕ, zero, suc, _+_, _-_, _*_, _^_, _≤_, _<_, zero-le}
-use native.Mathlib.Nat.{add-zero, zero-add, add-suc, suc-add, mul-add, add-mul, zero-mul, one-mul, mul-zero, mul-comm, mul-assoc, pow-succ', suc-sub-suc, sub-zero, le-refl}
+use native.Mathlib.Nat.{pow-succ', suc-sub-suc, sub-zero, le-refl}
 use native.Mathlib.Omega.{arith}
-use Rattle.tree.proofs.Laws.Sums.{sum, sum-cong, sum-add, sum-scale, sum-same, delta-self, delta-ne, equal?, sumOver-cong, sumOver-mono, sumOver-scale, sumOver-member, regroup-by, sumOver-change, down-in, down-out, down-low, down-once}
-use Rattle.tree.proofs.Laws.Walks.{ancestor-top, ancestor-more, hops, hops-stable, hops-step, hops-zero, hops-le, halve}
+use Rattle.tree.proofs.Laws.Sums.{sum, sum-cong, sum-add, sum-scale, sum-same, delta-self, delta-ne, equal?, sumOver-cong, sumOver-scale, sumOver-member, regroup-by, sumOver-change, down-in, down-low, down-once}
+use Rattle.tree.proofs.Laws.Walks.{ancestor-top, ancestor-more, hops, hops-stable, hops-step, hops-zero, halve}
 use Rattle.tree.specs.Lists.{sumOver, delta, count, down}
 use Rattle.tree.specs.Tree.{ancestor}
 

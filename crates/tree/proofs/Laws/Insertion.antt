@@ -1,11 +1,11 @@
 -- The loop of insertion, over the list of parents that the program holds: what holds before a step holds after it, and at the end the tree is
 -- legal and no legal tree has a better worst slack. Assumes nothing.
-use mathlib.Core.Path.{_≡_, refl, sym, ap, ap₂, _∙_, subst}
+use mathlib.Core.Path.{_≡_, refl, ap, subst}
 use mathlib.Core.Logic.{_≢_, _⊎_, inl, inr}
 use mathlib.Core.List.{List, [], _∷_}
-use Prim.Native.Nat.{ℕ, zero, suc, _+_, _-_, _*_, _≤_, _<_, zero-le}
+use Prim.Native.Nat.{ℕ, suc, _+_, _-_, _*_, _≤_, _<_}
 use native.Mathlib.Omega.{arith}
-use lib.ListN.{length, getD, set, length-set}
+use lib.ListN.{length, length-set}
 use lib.IntN.{ℤ, pos, _-ℤ_}
 use lib.Signed.{_≤ℤ_}
 use Rattle.tree.proofs.Laws.Gaps.{gap-mono}
@@ -13,12 +13,10 @@ use Rattle.tree.proofs.Laws.Growing.{PartTree, Split, split-tree}
 use Rattle.tree.proofs.Laws.KraftSums.{depthIn}
 use Rattle.tree.proofs.Laws.LegalTrees.{stores, tree-legal}
 use Rattle.tree.proofs.Laws.Rivals.{Attains, NoWorse, attains-step, base-tree, base-attains}
-use Rattle.tree.proofs.Laws.SinkEdge.{choice}
 use Rattle.tree.proofs.Laws.Sums.{down-in, equal?}
-use Rattle.tree.proofs.Laws.Walks.{hops}
-use Rattle.tree.specs.Lists.{sumOver, delta, count, down}
-use Rattle.tree.specs.Planning.{split, put}
-use Rattle.tree.specs.Tree.{ancestor, parentOf, Legal}
+use Rattle.tree.specs.Lists.{count, down}
+use Rattle.tree.specs.Planning.{split}
+use Rattle.tree.specs.Tree.{parentOf, Legal}
 
 -- w is the least of f over a list
 pub record Least (S : List ℕ) (f : ℕ → ℤ) (w : ℤ) : Type 0 where
@@ -76,20 +74,6 @@ module _ {N c : ℕ} {o : ℕ → ℤ} {S : List ℕ} {k : ℕ} {P : List ℕ} (
       each x m =
           let hx : count x S + count x (down N k) ≢ 0 = omega arith in
           (parentOf (split P N k s x), splits x hx, rw fuel at (no-worse c (s ∷ S) o (2 * suc k + 1) (parentOf (split P N k s x)) (parentOf (split P N k s v)) (w x) (w v) (least x hx) (least v hv) (top x hx)))
-
-  -- the delta with no search sumOver the edges: v is a sink of largest slack
-  pub grow-largest : (v : ℕ) → count v S ≢ 0
-      → ((y : ℕ) → count y S ≢ 0 → (o y -ℤ pos (depthIn (2 * k + 1) (parentOf P) y * c)) ≤ℤ (o v -ℤ pos (depthIn (2 * k + 1) (parentOf P) v * c)))
-      → Grown N c o (s ∷ S) (suc k) (split P N k s v)
-  grow-largest v sv largest = record {
-    size = simp length-set (g .size);
-    tree = rw fuel (split-tree (g .tree) (splits v hv) hv s1 sN fresh);
-    best = rw fuel (attains-step (g .tree) o c c1 s1 sN fresh rising (g .best) (parentOf (split P N k s v))
-        (λ x m. (parentOf (split P N k s x), splits x (omega arith), choice (g .tree) o c sv (omega arith) s1 sN fresh (splits x (omega arith)) (splits v hv) (rising v sv) largest)));
-  }
-    where
-      hv : count v S + count v (down N k) ≢ 0
-      hv = omega arith
 
 -- at the end: all sinks are in, and the tree is legal
 pub ends : (N c k : ℕ) (o : ℕ → ℤ) (S P : List ℕ) → suc k ≡ N → Grown N c o S k P → ((s : ℕ) → 1 ≤ s → s ≤ N → count s S ≡ 1) → Legal N P

@@ -1,19 +1,19 @@
--- What is proved of the Kraft maximum of specs/KraftMax.antt. Assumes nothing.
+-- The Kraft condition and maximum of specs/Kraft: the choice of m changes nothing, a negative floor fails, and the search finds the one maximum. Assumes nothing.
 use Prim.Native.Nat.{ℕ, zero, suc, _+_, _*_, _-_, _/_, _^_, _≤_, _<_, max, zero-le}
 use mathlib.Core.Path.{_≡_, refl, sym, ap, ap₂, _∙_, subst}
-use mathlib.Core.Bool.{Bool, true, false, not, cond}
-use mathlib.Core.Logic.{_≢_, _⊎_, inl, inr, ⊎-elim}
-use mathlib.Core.List.{List, [], _∷_, map}
-use native.Mathlib.Nat.{add-comm, mul-comm, mul-zero, mul-add, le-refl, le-trans, le-of-eq, eq-of-mul-eq-mul-left, le-of-mul-le-mul-left, mul-le-mul-left, mul-le-mul-right, pow-succ', le-div-iff-mul-le, zero-div}
+use mathlib.Core.Bool.{Bool, true, false}
+use mathlib.Core.Logic.{_⊎_, inl, inr, ⊎-elim}
+use mathlib.Core.List.{List, [], _∷_}
+use native.Mathlib.Nat.{add-comm, mul-comm, mul-zero, mul-add, le-of-mul-le-mul-left, mul-le-mul-left, mul-le-mul-right, pow-succ', le-div-iff-mul-le, zero-div}
 use native.Mathlib.Omega.{arith}
 use lib.Pow.{pow-add, pow-pos, pow-mono}
 use lib.ListN.{length}
-use lib.Dec.{T, leb, leb→le, le→leb}
-use lib.IntN.{ℤ, pos, negsuc, _+ℤ_, _-ℤ_, _*ℤ_, predℤ, +ℤ-invr}
-use lib.Signed.{_≤ℤ_, leZ}
+use lib.Dec.{T, leb→le, le→leb}
+use lib.IntN.{ℤ, pos, negsuc, _-ℤ_, predℤ, +ℤ-invr}
+use lib.Signed.{_≤ℤ_}
 use Rattle.quantities.proofs.Laws.Order.{min-is}
 use Rattle.quantities.specs.Floor.{floorDiv}
-use Rattle.quantities.specs.Linear.{up, dn, whole, +is, -is, le→, le-or-gt}
+use Rattle.quantities.specs.Linear.{up, dn, whole, -is, le-or-gt}
 use Rattle.quantities.specs.Order.{minℤ}
 use Rattle.tree.specs.Kraft.{floors, power, powers, Above, Kraft, IsKraftMaximum, upper, top, kraftAt, kraft, searchDown, kraftMaximum}
 use Rattle.tree.specs.Lists.{least, leastFrom}
@@ -193,6 +193,3 @@ maximum-single c a = record { meets = kraft-sound c (a ∷ []) a meets; largest 
 
     meets : kraft c (a ∷ []) a ≡ true
     meets = ap (λ f. kraftAt (top (f ∷ [])) (f ∷ [])) (zero-floor (a -ℤ a) (+ℤ-invr a))
-
-pub maximum-single-is : (c : ℕ) (a : ℤ) → 0 < c → kraftMaximum c (a ∷ []) ≡ a
-maximum-single-is c a c1 = maximum-one c (a ∷ []) (kraftMaximum c (a ∷ [])) a (maximum-is c a [] c1) (maximum-single c a)

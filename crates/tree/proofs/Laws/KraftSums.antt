@@ -1,18 +1,17 @@
 -- Kraft's condition on a worst slack σ, over gaps (own slack - σ) that are natural numbers: a tree with all slacks at least σ has it, and where
 -- σ has it with one sink more, some old sink has room for one branch point more. Assumes nothing.
-use mathlib.Core.Path.{_≡_, refl, sym, ap, ap₂, _∙_, subst}
+use mathlib.Core.Path.{_≡_, refl, sym, _∙_}
 use mathlib.Core.Logic.{_≢_, _⊎_, inl, inr}
 use mathlib.Core.List.{List, [], _∷_}
-use Prim.Native.Nat.{ℕ, zero, suc, _+_, _-_, _*_, _/_, _^_, _≤_, _<_, zero-le}
-use native.Mathlib.Nat.{add-zero, zero-add, add-suc, suc-add, mul-comm, add-comm, le-refl, le-trans, le-of-eq, le-div-iff-mul-le, le-of-mul-le-mul-left, mul-le-mul-left, eq-of-mul-eq-mul-left, lt-of-not-le, not-le-of-lt}
+use Prim.Native.Nat.{ℕ, suc, _+_, _-_, _*_, _/_, _^_, _≤_, _<_}
+use native.Mathlib.Nat.{mul-comm, add-comm, le-trans, le-of-eq, le-div-iff-mul-le, le-of-mul-le-mul-left, mul-le-mul-left, eq-of-mul-eq-mul-left}
 use native.Mathlib.Decide.{decLe}
 use native.Mathlib.Omega.{arith}
 use lib.Pow.{pow-add, pow-pos, pow-mono}
 use Rattle.tree.proofs.Laws.Growing.{PartTree, Split, kraft-tree, depth-new, depth-low, depth-other}
-use Rattle.tree.proofs.Laws.Sums.{sum, delta-self, delta-ne, equal?, sumOver-cong, sumOver-mono, sumOver-scale, sumOver-member}
+use Rattle.tree.proofs.Laws.Sums.{delta-self, delta-ne, equal?, sumOver-cong, sumOver-mono, sumOver-scale}
 use Rattle.tree.proofs.Laws.Walks.{hops, hops-le}
 use Rattle.tree.specs.Lists.{sumOver, delta, count, down}
-use Rattle.tree.specs.Tree.{ancestor}
 
 -- the sum of 2 ^ - d, times 2 ^ m
 abbrev pub powerSum : List ℕ → ℕ → (ℕ → ℕ) → ℕ

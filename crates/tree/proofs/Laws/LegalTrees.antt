@@ -1,19 +1,18 @@
--- The legal trees of the document and the trees that grow are the same; and the three stores that split an edge. Assumes nothing.
-use mathlib.Core.Path.{_≡_, refl, sym, ap, ap₂, _∙_, subst}
+-- A legal tree is a tree on all sinks as Laws/Growing has it, and back; and the three stores that split an edge. Assumes nothing.
+use mathlib.Core.Path.{_≡_, refl, sym, ap, _∙_}
 use mathlib.Core.Logic.{_≢_, _⊎_, inl, inr}
 use mathlib.Core.List.{List, [], _∷_}
-use Prim.Native.Nat.{ℕ, zero, suc, _+_, _-_, _*_, _/_, _^_, _≤_, _<_, zero-le}
-use native.Mathlib.Nat.{add-zero, zero-add, add-suc, suc-add, add-comm, zero-mul, le-refl, le-trans, le-of-eq}
+use Prim.Native.Nat.{ℕ, zero, suc, _+_, _-_, _*_, _≤_, _<_, zero-le}
+use native.Mathlib.Nat.{add-comm}
 use native.Mathlib.Decide.{decLe}
 use native.Mathlib.Numerals.{add-one}
 use native.Mathlib.Omega.{arith}
-use lib.ListN.{length, getD, set, length-set}
+use lib.ListN.{length, getD, length-set}
 use lib.Seq.{getD-set-same, getD-set-other}
-use Rattle.tree.proofs.Laws.Growing.{PartTree, Split, parent-inner, Inner}
+use Rattle.tree.proofs.Laws.Growing.{PartTree, Split}
 use Rattle.tree.proofs.Laws.Walks.{ancestor-top}
 use Rattle.tree.proofs.Laws.Reach.{legal-reach}
-use Rattle.tree.proofs.Laws.Sums.{sum, delta-self, delta-ne, equal?, sumOver-cong, sumOver-mono, sumOver-scale, sumOver-member, down-in, down-out, down-low, down-once, sum-places, sum-split, sum-cong, regroup-by}
-use Rattle.tree.proofs.Laws.Walks.{hops}
+use Rattle.tree.proofs.Laws.Sums.{sum, delta-self, delta-ne, equal?, down-in, down-out, down-low, down-once, sum-places, sum-split, sum-cong, regroup-by}
 use Rattle.tree.specs.Lists.{sumOver, delta, count, down}
 use Rattle.tree.specs.Planning.{put}
 use Rattle.tree.specs.Tree.{ancestor, parentOf, Legal}

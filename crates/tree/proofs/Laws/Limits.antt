@@ -9,7 +9,6 @@ use native.Mathlib.Omega.{arith}
 use native.Mathlib.Decide.{decLe}
 use lib.ListN.{length, getD}
 use lib.IntN.{ℤ, pos, negℤ, _-ℤ_}
-use lib.Signed.{_≤ℤ_}
 use Rattle.quantities.specs.declared.point.Point.{Point}
 use Rattle.quantities.specs.Linear.{whole, -is}
 use Rattle.quantities.specs.Reach.{Within, PointWithin}

@@ -1,10 +1,10 @@
 -- The marked nets of document 01, by computation and by Theorem 1.
-use Prim.Native.Nat.{ℕ, _<_}
+use Prim.Native.Nat.{ℕ}
 use mathlib.Core.Path.{_≡_, refl, sym, subst}
-use mathlib.Core.List.{List, [], _∷_}
+use mathlib.Core.List.{[], _∷_}
 use native.Mathlib.Nat.{mul-zero}
 use native.Mathlib.Omega.{arith}
-use lib.IntN.{ℤ, pos, negℤ}
+use lib.IntN.{pos, negℤ}
 use lib.Signed.{_<ℤ_, ltZ-yes}
 use Rattle.quantities.specs.Order.{minℤ, maxℤ}
 use Rattle.quantities.specs.Floor.{floorDiv}

@@ -1,17 +1,16 @@
--- The measures of specs/Measures.antt by those of the theorem (specs/Best.antt), and in a tree whose branch points stand at the root. Assumes nothing.
-use Prim.Native.Nat.{ℕ, zero, suc, _+_, _*_, _-_, _≤_, _<_, zero-le}
-use mathlib.Core.Path.{_≡_, refl, sym, ap, ap₂, _∙_, subst}
-use mathlib.Core.Bool.{Bool, true, false, cond}
-use mathlib.Core.Logic.{_≢_, _⊎_, inl, inr}
-use mathlib.Core.List.{List, [], _∷_, _++_, map}
-use native.Mathlib.Nat.{suc-add, mul-comm, add-zero}
+-- The measures of specs/Measures by delays between vertices, as Laws/Rivals has them, and in a tree whose branch points stand at the root. Assumes nothing.
+use Prim.Native.Nat.{ℕ, zero, suc, _+_, _*_, _-_, _≤_, _<_}
+use mathlib.Core.Path.{_≡_, refl, sym, ap, ap₂, _∙_}
+use mathlib.Core.Bool.{Bool, true, false}
+use mathlib.Core.Logic.{_≢_, inl, inr}
+use mathlib.Core.List.{List, _++_, map}
+use native.Mathlib.Nat.{mul-comm}
 use native.Mathlib.Omega.{arith}
 use lib.ListN.{length, getD, replicate, List·getD-append, length-map}
 use lib.Seq.{getD-append-add}
 use lib.Dec.{T, ltb, lt→ltb, ltb→lt}
-use lib.IntN.{ℤ, pos, natAbs, _-ℤ_}
-use lib.Signed.{_≤ℤ_}
-use Rattle.quantities.specs.Linear.{up, dn, whole, -is}
+use lib.IntN.{ℤ, pos, _-ℤ_}
+use Rattle.quantities.specs.Linear.{whole, -is}
 use Rattle.quantities.specs.declared.point.Point.{Point}
 use Rattle.tree.proofs.Laws.Walks.{ancestor-more, ancestor-add, hops, hops-stable, hops-add}
 use Rattle.tree.proofs.Laws.Growing.{PartTree, Inner, parent-inner, inner-up}
@@ -19,9 +18,9 @@ use Rattle.tree.proofs.Laws.Delay.{delay-self, delay-triangle}
 use Rattle.tree.proofs.Laws.Rivals.{Metric, wayDelay, ownIn, slackIn, straight-way}
 use Rattle.tree.proofs.Laws.KraftSums.{depthIn}
 use Rattle.tree.proofs.Laws.Sums.{sumOver-scale}
-use Rattle.tree.specs.Lists.{sumOver, delta, count, down}
+use Rattle.tree.specs.Lists.{sumOver, count}
 use Rattle.tree.specs.Measures.{pathUp, path, edgeLength, pathDelay, oneIf, depth, slack}
-use Rattle.tree.specs.Net.{Sink, Net, size, required, sinkAt, delay, ownSlack}
+use Rattle.tree.specs.Net.{Net, size, required, sinkAt, delay, ownSlack}
 use Rattle.tree.specs.Planning.{unsettled}
 use Rattle.tree.specs.Tree.{ancestor, parentOf, Tree, place, parent}
 
@@ -101,7 +100,7 @@ module _ {n : ℕ} {S : List ℕ} {k F : ℕ} {p : ℕ → ℕ} (t : PartTree n 
 pub sub-sub : (a : ℤ) (A B : ℕ) → a -ℤ pos A -ℤ pos B ≡ a -ℤ pos (A + B)
 sub-sub a A B = omega (arith, whole, -is (a -ℤ pos A) (pos B), -is a (pos A), -is a (pos (A + B)))
 
--- the slack is the theorem's
+-- the slack by delays between vertices
 module _ (N : Net) (T : Tree) {S : List ℕ} {k : ℕ} (t : PartTree (size N) S k (length (T .parents)) (parent T)) (s : ℕ) (m : count s S ≢ 0) where
   pub slack-is : slack N T s ≡ slackIn (between N T) (required N) (N .branch) (length (T .parents)) (parent T) s
   slack-is =

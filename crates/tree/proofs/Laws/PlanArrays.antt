@@ -1,5 +1,5 @@
 -- What the planner's arrays hold from step to step: ready for insertion, planned, settled. Assumes nothing.
-use Prim.Native.Nat.{ℕ, zero, suc, _+_, _*_, _≤_, _<_}
+use Prim.Native.Nat.{ℕ, zero, suc, _*_, _≤_, _<_}
 use mathlib.Core.Path.{_≡_, sym, ap, _∙_, subst}
 use mathlib.Core.List.{List}
 use native.Mathlib.Omega.{arith}
@@ -7,16 +7,16 @@ use lib.ListN.{length, getD, take}
 use lib.IntN.{ℤ, pos}
 use Rattle.quantities.specs.Reach.{PointWithin}
 use Rattle.tree.specs.declared.header.Header.{Header}
-use Rattle.tree.specs.Net.{Net, Sink, size, ownSlack}
-use Rattle.tree.specs.Tree.{Tree, parentOf, Legal, place}
+use Rattle.tree.specs.Net.{Sink, size, ownSlack}
+use Rattle.tree.specs.Tree.{parentOf, Legal, place}
 use Rattle.tree.specs.Measures.{wireLength}
 use Rattle.tree.specs.Planning.{order, lowest, planParents}
 use Rattle.tree.specs.Settling.{settledTree, planBy, plan}
 use Rattle.tree.specs.Limits.{positionLimit, sinkLimit}
-use Rattle.tree.specs.Arrays.{pointAt, netOf, parentsOf, treeOf, Parents, Points, HoldsNet, HoldsTree, Downward}
+use Rattle.tree.specs.Arrays.{pointAt, netOf, parentsOf, treeOf, Parents, HoldsNet, HoldsTree, Downward}
 use Rattle.tree.specs.Insertion.{Ready}
 use Rattle.tree.proofs.Laws.Tables.{table-cong}
-use Rattle.tree.proofs.Laws.Arrays.{size-is, parents-at, parents-length, place-at}
+use Rattle.tree.proofs.Laws.Arrays.{size-is, parents-at, place-at}
 use Rattle.tree.proofs.Laws.Measuring.{branch-is}
 use Rattle.tree.proofs.Laws.Theorem1.{plan-legal}
 use Rattle.tree.proofs.Laws.Downward.{plan-downward}

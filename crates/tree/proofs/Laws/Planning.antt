@@ -1,30 +1,29 @@
 -- What is proved of the planned tree before settling: the order, the choice of the edge, and the loop. Assumes nothing.
 use Prim.Native.Nat.{ℕ, zero, suc, _+_, _*_, _-_, _≤_, _<_, zero-le}
-use mathlib.Core.Path.{_≡_, refl, sym, ap, ap₂, _∙_, subst}
+use mathlib.Core.Path.{_≡_, refl, sym, ap, _∙_, subst}
 use mathlib.Core.Bool.{Bool, true, false, cond}
 use mathlib.Core.Logic.{_≢_, _⊎_, inl, inr, ⊎-elim}
 use mathlib.Core.List.{List, [], _∷_, _++_, map}
-use native.Mathlib.Nat.{add-zero, zero-add, add-comm}
+use native.Mathlib.Nat.{zero-add}
 use native.Mathlib.Omega.{arith}
 use lib.ListN.{length, getD, take, drop, replicate, length-set, length-replicate, length-take}
 use lib.Dec.{ltb}
 use lib.IntN.{ℤ, pos, _-ℤ_}
-use lib.Signed.{_≤ℤ_, ltZ, leZ, ≤ℤ-refl}
+use lib.Signed.{_≤ℤ_, ltZ, ≤ℤ-refl}
 use Rattle.quantities.proofs.Laws.Order.{min-is, total}
-use Rattle.quantities.specs.Linear.{up, dn, whole, ltZ-t, ltZ-f}
+use Rattle.quantities.specs.Linear.{whole}
 use Rattle.quantities.specs.Order.{minℤ}
 use Rattle.tree.proofs.Laws.Growing.{split-tree, PartTree}
 use Rattle.tree.proofs.Laws.Insertion.{Least, ≤ℤ-trans, Grown, start, after, grow, splits, fuel}
-use Rattle.tree.proofs.Laws.KraftSums.{depthIn}
 use Rattle.tree.proofs.Laws.LegalTrees.{sum-down}
 use Rattle.tree.proofs.Laws.Measures.{tree-more, dep-more, unsettled-is}
 use Rattle.tree.proofs.Laws.Tables.{range-length}
 use Rattle.tree.proofs.Laws.Sums.{sum, equal?, delta-self, delta-ne, down-in, down-once}
 use Rattle.tree.specs.Lists.{sumOver, delta, count, down, range, leastFrom, least}
-use Rattle.tree.specs.Measures.{worstOver, slack}
+use Rattle.tree.specs.Measures.{slack}
 use Rattle.tree.specs.Net.{Net, size, sinkNumbers, ownSlack}
-use Rattle.tree.specs.Planning.{split, earlier, insert, sort, order, unsettled, lowerEnds, worstAfter, TieRule, ranks, best, bestOf, chosen, insertAll, parentsAfter, planParents}
-use Rattle.tree.specs.Tree.{parentOf, Legal, Tree}
+use Rattle.tree.specs.Planning.{split, earlier, insert, sort, order, unsettled, worstAfter, TieRule, ranks, best, bestOf, chosen, insertAll, parentsAfter, planParents}
+use Rattle.tree.specs.Tree.{parentOf}
 
 -- ---- the least over a list of sinks
 

@@ -1,21 +1,18 @@
 -- The worst slack of a tree: the rival bound over any legal tree, and the invariant of insertion that attains it. Assumes nothing.
-use mathlib.Core.Path.{_≡_, refl, sym, ap, ap₂, _∙_, subst}
+use mathlib.Core.Path.{_≡_, refl, ap, _∙_}
 use mathlib.Core.Logic.{_≢_, _⊎_, inl, inr}
 use mathlib.Core.List.{List, [], _∷_}
-use Prim.Native.Nat.{ℕ, zero, suc, _+_, _-_, _*_, _/_, _^_, _≤_, _<_, zero-le}
-use native.Mathlib.Nat.{add-zero, zero-add, le-refl, le-trans, le-of-eq, mul-le-mul-left, zero-mul, add-comm}
+use Prim.Native.Nat.{ℕ, zero, suc, _+_, _*_, _/_, _^_, _≤_, _<_}
+use native.Mathlib.Nat.{le-of-eq}
 use native.Mathlib.Omega.{arith}
-use lib.ListN.{length, getD, set}
-use lib.IntN.{ℤ, pos, natAbs, _-ℤ_, +ℤ-invr}
+use lib.IntN.{ℤ, pos, _-ℤ_}
 use lib.Signed.{_≤ℤ_}
 use Rattle.tree.proofs.Laws.Gaps.{gap, fits, fits-back, gap-mono, gap-sub}
 use Rattle.tree.proofs.Laws.Growing.{PartTree, Split, Inner, parent-inner, inner-up}
-use Rattle.tree.proofs.Laws.KraftSums.{powerSum, AtMost, Kraft, depthIn, rival, room, split-room, powerSum-le}
-use Rattle.tree.proofs.Laws.LegalTrees.{legal-tree}
-use Rattle.tree.proofs.Laws.Sums.{sum, delta-self, delta-ne, equal?, sumOver-member, sumOver-cong, down-once, down-in}
-use Rattle.tree.proofs.Laws.Walks.{hops}
-use Rattle.tree.specs.Lists.{sumOver, delta, count, down}
-use Rattle.tree.specs.Tree.{ancestor, parentOf, Legal}
+use Rattle.tree.proofs.Laws.KraftSums.{powerSum, AtMost, Kraft, depthIn, rival, room, split-room}
+use Rattle.tree.proofs.Laws.Sums.{delta-self, delta-ne, equal?, sumOver-member}
+use Rattle.tree.specs.Lists.{sumOver, delta, count}
+use Rattle.tree.specs.Tree.{ancestor}
 
 -- ---- delays
 

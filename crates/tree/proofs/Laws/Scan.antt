@@ -1,34 +1,32 @@
 -- Under document 01's tie rule the chosen edge is always that of a sink, and one scan over the sinks finds it: the first number x that makes
 -- the lesser of the worst slack so far and of (slack of x, less c) largest. For the program. Assumes nothing.
-use Prim.Native.Nat.{ℕ, zero, suc, _+_, _*_, _-_, _≤_, _<_, zero-le}
-use mathlib.Core.Path.{_≡_, refl, sym, ap, ap₂, _∙_, subst}
-use mathlib.Core.Bool.{Bool, true, false}
+use Prim.Native.Nat.{ℕ, zero, suc, _+_, _*_, _≤_, _<_}
+use mathlib.Core.Path.{_≡_, refl, sym, ap, _∙_, subst}
 use mathlib.Core.Logic.{_≢_, _⊎_, inl, inr, ⊎-elim}
-use mathlib.Core.List.{List, [], _∷_, _++_, map}
+use mathlib.Core.List.{List, _∷_, _++_}
 use native.Mathlib.Omega.{arith}
-use lib.ListN.{length, getD}
+use lib.ListN.{length}
 use lib.Dec.{ltb}
 use lib.IntN.{ℤ, pos, _-ℤ_}
 use lib.Signed.{_≤ℤ_, ≤ℤ-refl}
 use Rattle.quantities.proofs.Laws.Order.{min-is}
-use Rattle.quantities.specs.Linear.{up, dn, whole, -is}
+use Rattle.quantities.specs.Linear.{whole, -is}
 use Rattle.quantities.specs.Order.{minℤ}
 use Rattle.tree.proofs.Laws.AnySplit.{meet}
 use Rattle.tree.proofs.Laws.Growing.{Inner, parent-inner, inner-up, PartTree}
-use Rattle.tree.proofs.Laws.Insertion.{Least, ≤ℤ-trans, Grown, after, splits, fuel}
+use Rattle.tree.proofs.Laws.Insertion.{Least, Grown, after, splits, fuel}
 use Rattle.tree.proofs.Laws.KraftSums.{depthIn}
-use Rattle.tree.proofs.Laws.Measures.{sub-sub, tree-more, dep-more, unsettled-is}
+use Rattle.tree.proofs.Laws.Measures.{tree-more, dep-more, unsettled-is}
 use Rattle.tree.proofs.Laws.Planning.{after-is, best-member, best-largest, count-append}
 use Rattle.tree.proofs.Laws.Rivals.{NoWorse}
 use Rattle.tree.proofs.Laws.SinkEdge.{choice, meet-self}
-use Rattle.tree.proofs.Laws.Sums.{equal?, delta-self, delta-ne, down-in, down-low}
+use Rattle.tree.proofs.Laws.Sums.{equal?, delta-ne, down-low}
 use Rattle.tree.proofs.Laws.Ties.{lowest-law}
-use Rattle.tree.proofs.Laws.Walks.{hops}
-use Rattle.tree.proofs.Laws.WorstAfter.{before, LeastUnder, once, after-old, after-new, worst-closed}
-use Rattle.tree.specs.Lists.{delta, count, down}
+use Rattle.tree.proofs.Laws.WorstAfter.{before, once, after-old, after-new, worst-closed}
+use Rattle.tree.specs.Lists.{count, down}
 use Rattle.tree.specs.Measures.{slack}
 use Rattle.tree.specs.Net.{Net, size, ownSlack}
-use Rattle.tree.specs.Planning.{split, unsettled, worstAfter, lowest, lowerEnds, best, bestOf, chosen}
+use Rattle.tree.specs.Planning.{split, unsettled, worstAfter, lowest, bestOf, chosen}
 use Rattle.tree.specs.Tree.{parentOf}
 
 le-both : (a b : ℤ) → a ≤ℤ b → b ≤ℤ a → a ≡ b

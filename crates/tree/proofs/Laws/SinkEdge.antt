@@ -1,18 +1,18 @@
 -- The edge to a sink of largest slack is a best edge to split, among the edges to all vertices. Assumes nothing.
-use mathlib.Core.Path.{_≡_, refl, sym, ap, ap₂, _∙_, subst}
+use mathlib.Core.Path.{_≡_, refl, sym, ap, _∙_, subst}
 use mathlib.Core.Logic.{_≢_, _⊎_, inl, inr}
 use mathlib.Core.List.{List, [], _∷_}
-use Prim.Native.Nat.{ℕ, zero, suc, _+_, _-_, _*_, _≤_, _<_, zero-le}
-use native.Mathlib.Nat.{le-refl, le-trans, mul-le-mul-right}
+use Prim.Native.Nat.{ℕ, zero, suc, _+_, _*_, _≤_, _<_}
+use native.Mathlib.Nat.{le-trans, mul-le-mul-right}
 use native.Mathlib.Omega.{arith}
 use lib.IntN.{ℤ, pos, _-ℤ_}
 use lib.Signed.{_≤ℤ_}
 use Rattle.tree.proofs.Laws.AnySplit.{meet, depth-any}
 use Rattle.tree.proofs.Laws.Gaps.{gap, fits, fits-back, gap-mono, gap-sub}
-use Rattle.tree.proofs.Laws.Growing.{PartTree, Split, Inner, hops-up, split-tree, parent-inner}
+use Rattle.tree.proofs.Laws.Growing.{PartTree, Split, hops-up, split-tree}
 use Rattle.tree.proofs.Laws.KraftSums.{depthIn, split-room}
 use Rattle.tree.proofs.Laws.Rivals.{NoWorse}
-use Rattle.tree.proofs.Laws.Sums.{delta-self, delta-ne, equal?, down-in, down-once, down-low}
+use Rattle.tree.proofs.Laws.Sums.{delta-self, delta-ne, equal?, down-in}
 use Rattle.tree.proofs.Laws.Walks.{hops, hops-le}
 use Rattle.tree.specs.Lists.{sumOver, delta, count, down}
 use Rattle.tree.specs.Tree.{ancestor}

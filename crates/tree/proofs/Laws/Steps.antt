@@ -1,15 +1,15 @@
 -- Insertion step by step, as a program goes: the sinks that are in after j insertions, the parents then, and what holds of the tree so far. Assumes nothing.
-use mathlib.Core.Path.{_≡_, refl, sym, ap, ap₂, _∙_, subst}
+use mathlib.Core.Path.{_≡_, refl, sym, ap, _∙_, subst}
 use mathlib.Core.Logic.{_≢_, _⊎_, inl, inr}
 use mathlib.Core.List.{List, [], _∷_, _++_}
 use Prim.Native.Nat.{ℕ, zero, suc, _+_, _-_, _*_, _≤_, _<_}
-use native.Mathlib.Nat.{zero-add, add-zero}
+use native.Mathlib.Nat.{zero-add}
 use native.Mathlib.Omega.{arith}
 use lib.ListN.{length, getD, take, drop, replicate, length-replicate, length-drop}
 use lib.Seq.{drop-cons, take-suc, getD-drop, length-take-le}
 use lib.IntN.{ℤ}
 use lib.Signed.{_≤ℤ_}
-use Rattle.tree.specs.Lists.{delta, count, down}
+use Rattle.tree.specs.Lists.{count}
 use Rattle.tree.specs.Net.{Net, size, ownSlack}
 use Rattle.tree.specs.Tree.{parentOf}
 use Rattle.tree.specs.Planning.{TieRule, order, split, chosen, insertAll, parentsAfter}

@@ -1,11 +1,11 @@
--- Sums over a range of numbers and over a list, legal-counts, and the regrouping of a sum by its values. Assumes nothing.
-use mathlib.Core.Path.{_≡_, refl, sym, ap, ap₂, _∙_}
+-- Sums over a range of numbers and over a list, counts, and the regrouping of a sum by its values. Assumes nothing.
+use mathlib.Core.Path.{_≡_, refl, sym, ap, ap₂}
 use mathlib.Core.Logic.{_≢_, _⊎_, inl, inr}
-use mathlib.Core.List.{List, [], _∷_, _++_}
-use Prim.Native.Nat.{ℕ, zero, suc, _+_, _-_, _*_, _^_, _≤_, _<_, zero-le}
-use native.Mathlib.Nat.{add-zero, zero-add, add-suc, suc-add, mul-add, add-mul, zero-mul, one-mul, mul-zero, le-refl, suc-inj, eq-or-lt-of-le, mul-comm}
+use mathlib.Core.List.{List, [], _∷_}
+use Prim.Native.Nat.{ℕ, zero, suc, _+_, _*_, _≤_, _<_, zero-le}
+use native.Mathlib.Nat.{add-zero, zero-add, add-suc, suc-add, add-mul, zero-mul, one-mul, mul-zero, le-refl, eq-or-lt-of-le}
 use native.Mathlib.Omega.{arith}
-use lib.ListN.{length, getD, set}
+use lib.ListN.{length, getD}
 use Rattle.tree.specs.Lists.{sumOver, delta, count, down}
 
 -- f a + f (a + 1) + .. , n terms
@@ -77,7 +77,7 @@ pub sum-places : (a : ℕ) (l : List ℕ) (f g : ℕ → ℕ) → ((i : ℕ) →
 sum-places a [] f g h = refl
 sum-places a (x ∷ l) f g h = ap₂ _+_ (rw add-zero at (h 0 (omega arith))) (sum-places (suc a) l f g (λ i p. simp suc-add (simp add-suc at (h (suc i) (omega arith)))))
 
--- ---- a list as a bag: x is in l where its tally is not 0
+-- ---- a list as a bag: x is in l where its count is not 0
 
 pub delta-ne : (x y : ℕ) → x ≢ y → delta x y ≡ 0
 delta-ne zero zero h = absurd (h refl)

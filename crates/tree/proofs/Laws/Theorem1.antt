@@ -1,37 +1,36 @@
--- Theorem 1 of document 000 for the definitions of specs/Measures, IsKraftMaximum and Planning: the planned tree is legal, its worst slack is the Kraft maximum,
+-- Theorem 1 of document 000 for the definitions of specs/Measures, Kraft and Planning: the planned tree is legal, its worst slack is the Kraft maximum,
 -- and no legal tree has a larger one. For every tie rule. Assumes nothing.
-use Prim.Native.Nat.{ℕ, zero, suc, _+_, _*_, _-_, _/_, _^_, _≤_, _<_, zero-le}
+use Prim.Native.Nat.{ℕ, zero, suc, _+_, _*_, _-_, _/_, _^_, _≤_, _<_}
 use mathlib.Core.Path.{_≡_, refl, sym, ap, ap₂, _∙_, subst}
-use mathlib.Core.Logic.{_≢_, _⊎_, inl, inr, ⊎-elim, _↔_}
-use mathlib.Core.List.{List, [], _∷_, _++_, map}
+use mathlib.Core.Logic.{_≢_, _⊎_, inl, inr}
+use mathlib.Core.List.{List, [], _∷_, map}
 use native.Mathlib.Omega.{arith}
-use lib.ListN.{length, getD, take, length-map}
+use lib.ListN.{length, take, length-map}
 use lib.IntN.{ℤ, pos, negsuc, natAbs, _-ℤ_}
 use lib.Signed.{_≤ℤ_, _<ℤ_}
 use Rattle.quantities.specs.Floor.{floorDiv}
 use Rattle.quantities.specs.Linear.{up, dn, whole, -is}
-use Rattle.quantities.specs.declared.point.Point.{Point}
 use Rattle.tree.proofs.Laws.Gaps.{gap}
 use Rattle.tree.proofs.Laws.Growing.{PartTree}
-use Rattle.tree.proofs.Laws.Insertion.{Least, Grown, ends, ≤ℤ-trans}
-use Rattle.tree.proofs.Laws.Kraft.{Below, kraft-below, top-above, any-m, maximum-is, maximum-one}
-use Rattle.tree.proofs.Laws.KraftSums.{powerSum, AtMost, depthIn, powerSum-le, kraft-at}
-use Rattle.tree.proofs.Laws.LegalTrees.{legal-tree, bag, sum-down}
+use Rattle.tree.proofs.Laws.Insertion.{Least, ends}
+use Rattle.tree.proofs.Laws.Kraft.{Below, kraft-below, top-above, maximum-is, maximum-one}
+use Rattle.tree.proofs.Laws.KraftSums.{powerSum, depthIn, powerSum-le, kraft-at}
+use Rattle.tree.proofs.Laws.LegalTrees.{legal-tree, bag}
 use Rattle.tree.proofs.Laws.Measures.{between, between-metric, slack-is, own-is, tree-more, depth-is}
 use Rattle.tree.proofs.Laws.Planning.{least-law, Done, planned, after-insertions}
 use Rattle.tree.proofs.Laws.Tables.{range-length}
 use Rattle.tree.proofs.Laws.Rivals.{KraftOver, ownIn, rival-kraft}
 use Rattle.tree.proofs.Laws.Settling.{range-count, settled-is}
-use Rattle.tree.proofs.Laws.Sums.{sum, equal?, delta-self, delta-ne, sumOver-cong, down-once, down-in}
+use Rattle.tree.proofs.Laws.Sums.{equal?, delta-self, delta-ne, sumOver-cong, down-once, down-in}
 use Rattle.tree.specs.Kraft.{floors, power, powers, Above, Kraft, IsKraftMaximum, top, kraftMaximum}
-use Rattle.tree.specs.Lists.{sumOver, delta, count, down, range, least}
+use Rattle.tree.specs.Lists.{sumOver, count, down, range, least}
 use Rattle.tree.specs.Measures.{slack, worstSlack, depth}
-use Rattle.tree.specs.Net.{branchNumbers, Net, size, sinkNumbers, required, ownSlack, ownSlacks}
+use Rattle.tree.specs.Net.{branchNumbers, Net, size, required, ownSlack, ownSlacks}
 use Rattle.tree.specs.Planning.{TieRule, order, unsettled, parentsAfter, planParents}
-use Rattle.tree.specs.Settling.{settled, settledTree, planBy}
-use Rattle.tree.specs.Tree.{parentOf, Legal, Tree, parent, LegalTree}
+use Rattle.tree.specs.Settling.{settled, planBy}
+use Rattle.tree.specs.Tree.{parentOf, Tree, LegalTree}
 
--- ---- Kraft's condition on the list of own slacks is the theorem's
+-- ---- Kraft's condition on the list of own slacks, by gaps
 
 floor-gap : (c : ℕ) (a s : ℤ) → s ≤ℤ a → floorDiv (a -ℤ s) c ≡ pos (gap s a / c)
 unfolding floorDiv
@@ -98,6 +97,9 @@ module _ (c : ℕ) (o : ℕ → ℤ) (s : ℤ) where
 maximum-of : (c : ℕ) (own : List ℤ) → 0 < c → 1 ≤ length own → IsKraftMaximum c own (kraftMaximum c own)
 maximum-of c [] c1 h = absurd (omega arith)
 maximum-of c (a ∷ l) c1 h = maximum-is c a l c1
+
+pub maximum-of-net : (N : Net) → 0 < N .branch → 1 ≤ size N → IsKraftMaximum (N .branch) (ownSlacks N) (kraftMaximum (N .branch) (ownSlacks N))
+maximum-of-net N c1 n1 = maximum-of (N .branch) (ownSlacks N) c1 (omega (arith, length-map (range 1 (size N)) (ownSlack N), range-length 1 (size N)))
 
 -- ---- no legal tree is above it
 
@@ -192,20 +194,17 @@ module _ (N : Net) (c1 : 0 < N .branch) (n1 : 1 ≤ size N) where
 
     -- the worst slack is the Kraft maximum, also as it is computed
     pub plan-computed : kraftMaximum (N .branch) (ownSlacks N) ≡ worstSlack N (planBy tie N)
-    plan-computed = maximum-one (N .branch) (ownSlacks N) _ _ (maximum-of (N .branch) (ownSlacks N) c1 (omega (arith, length-map (range 1 (size N)) (ownSlack N), range-length 1 (size N)))) plan-maximum
+    plan-computed = maximum-one (N .branch) (ownSlacks N) _ _ (maximum-of-net N c1 n1) plan-maximum
 
     -- no legal tree has a larger worst slack
     pub plan-best : (R : Tree) → LegalTree N R → worstSlack N R ≤ℤ worstSlack N (planBy tie N)
     plan-best R L = plan-maximum .largest (worstSlack N R) (rival R L)
 
     -- refusal 5: "no legal tree has worst slack t or more" just where the planned tree has less
-    pub need-reached : (t : ℤ) → t ≤ℤ worstSlack N (planBy tie N) → (R : Tree) × LegalTree N R × (t ≤ℤ worstSlack N R)
-    need-reached t h = (planBy tie N, plan-legal, h)
-
     pub need-not : (t : ℤ) → worstSlack N (planBy tie N) <ℤ t → (R : Tree) → LegalTree N R → worstSlack N R <ℤ t
     need-not t h R L = let k : worstSlack N R ≤ℤ worstSlack N (planBy tie N) = plan-best R L in omega (arith, whole)
 
-    -- "After every insertion the sum of 2^-(branch points above the sink), sumOver the sinks inserted, is exactly 1", for any m: j insertions made, S the sinks inserted
+    -- "After every insertion the sum of 2^-(branch points above the sink), over the sinks inserted, is exactly 1", for any m: j insertions made, S the sinks inserted
     pub kraft-sum : (j : ℕ) → j < size N → (m : ℕ) → ((s : ℕ) → count s (take (suc j) (order N)) ≢ 0 → depth N (unsettled N (parentsAfter tie N j)) s ≤ m)
         → sumOver (take (suc j) (order N)) (λ s. 2 ^ (m - depth N (unsettled N (parentsAfter tie N j)) s)) ≡ 2 ^ m
     kraft-sum j jn m h =

@@ -1,22 +1,19 @@
 -- The tie rules: of the edges that give the largest worst slack the chosen one comes first. Assumes nothing.
-use Prim.Native.Nat.{ℕ, zero, suc, _+_, _≤_, _<_}
-use mathlib.Core.Path.{_≡_, refl, sym, ap, _∙_, subst}
+use Prim.Native.Nat.{ℕ, _+_, _≤_}
+use mathlib.Core.Path.{_≡_, refl, sym, _∙_, subst}
 use mathlib.Core.Bool.{Bool, true, false, cond}
-use mathlib.Core.Logic.{_≢_, _⊎_, inl, inr, ⊎-elim}
+use mathlib.Core.Logic.{_≢_, _⊎_, inl, inr}
 use mathlib.Core.List.{List, [], _∷_}
 use native.Mathlib.Omega.{arith}
-use lib.Dec.{T, ltb, ltb→lt, nltb→le}
 use borrow.Author.Tests.{ltb-true, ltb-false}
 use lib.IntN.{ℤ}
 use lib.Signed.{_≤ℤ_, ≤ℤ-refl, ltZ}
-use Rattle.quantities.specs.Distance.{distance}
-use Rattle.quantities.specs.Linear.{up, dn, whole}
+use Rattle.quantities.specs.Linear.{whole}
 use Rattle.tree.proofs.Laws.Planning.{best-largest, best-member}
 use Rattle.tree.proofs.Laws.Sums.{equal?, delta-ne}
 use Rattle.tree.specs.Lists.{count, delta}
-use Rattle.tree.specs.Net.{Net, sinkAt}
-use Rattle.tree.specs.Planning.{ranks, best, bestOf, lowest, unsettled}
-use Rattle.tree.specs.Tree.{place}
+use Rattle.tree.specs.Net.{Net}
+use Rattle.tree.specs.Planning.{ranks, best, bestOf, lowest}
 
 -- u goes before v, or they have the same place, in an order that the rule decides
 module _ (f : ℕ → ℤ) (tie : ℕ → ℕ → Bool) (Le : ℕ → ℕ → Type 0) (same⊑ : (u : ℕ) → Le u u) (trans⊑ : (u v w : ℕ) → Le u v → Le v w → Le u w)

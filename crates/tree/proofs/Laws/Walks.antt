@@ -1,16 +1,9 @@
--- A tree as the list of its vertices' parents: walks, depths, and Kraft's equality by counting the children twice. Assumes nothing.
-use mathlib.Core.Path.{_≡_, refl, sym, ap, ap₂, _∙_, subst}
-use mathlib.Core.Logic.{_≢_, _⊎_, inl, inr}
-use mathlib.Core.List.{List, [], _∷_, _++_}
-use Prim.Native.Nat.{ℕ, zero, suc, _+_, _-_, _*_, _^_, _≤_, _<_, zero-le}
-use native.Mathlib.Nat.{add-zero, zero-add, add-suc, suc-add, mul-add, add-mul, zero-mul, one-mul, mul-zero, le-refl, suc-inj, eq-or-lt-of-le, mul-comm, pow-suc, add-comm, le-trans, eq-of-mul-eq-mul-left, le-of-mul-le-mul-left, mul-le-mul-left, le-add-right, pow-succ', suc-sub-suc, sub-zero}
-use native.Mathlib.Numerals.{add-one}
-use lib.Pow.{pow-add, pow-pos, pow-mono}
+-- Walks up a tree: where they lead, and how many vertices below the root they pass. Assumes nothing.
+use mathlib.Core.Path.{_≡_, refl, sym, ap, _∙_}
+use Prim.Native.Nat.{ℕ, zero, suc, _+_, _-_, _*_, _^_, _≤_, zero-le}
+use native.Mathlib.Nat.{zero-add, suc-add, pow-succ'}
 use native.Mathlib.Omega.{arith}
-use lib.ListN.{length, getD, set}
-use Rattle.tree.proofs.Laws.Sums.{sum, sum-cong, sum-zero, sum-mono, sum-add, sum-scale, sum-split, regroup, sum-places}
-use Rattle.tree.specs.Lists.{sumOver, delta, count}
-use Rattle.tree.specs.Tree.{parentOf, ancestor, Legal}
+use Rattle.tree.specs.Tree.{ancestor}
 
 -- how many of the vertices v, p v, .. k of them, are not the root
 abbrev pub hops : (ℕ → ℕ) → ℕ → ℕ → ℕ

@@ -1,31 +1,28 @@
 -- The worst slack after a split, in closed form: the least of the old worst slack, of the least slack under the split edge less c, and of the new sink's own. For the program. Assumes nothing.
-use Prim.Native.Nat.{ℕ, zero, suc, _+_, _*_, _-_, _≤_, _<_, zero-le}
-use mathlib.Core.Path.{_≡_, refl, sym, ap, ap₂, _∙_, subst}
-use mathlib.Core.Logic.{_≢_, _⊎_, inl, inr, ⊎-elim}
-use mathlib.Core.List.{List, [], _∷_, _++_, map}
-use native.Mathlib.Nat.{add-mul, mul-comm}
+use Prim.Native.Nat.{ℕ, zero, suc, _+_, _*_, _≤_, _<_, zero-le}
+use mathlib.Core.Path.{_≡_, sym, ap, _∙_, subst}
+use mathlib.Core.Logic.{_≢_, _⊎_, inl, inr}
+use mathlib.Core.List.{List, _∷_}
+use native.Mathlib.Nat.{add-mul}
 use native.Mathlib.Omega.{arith}
-use lib.ListN.{length, getD}
 use lib.IntN.{ℤ, pos, _-ℤ_}
 use lib.Signed.{_≤ℤ_}
-use Rattle.quantities.proofs.Laws.Order.{min-is, total}
-use Rattle.quantities.specs.Linear.{up, dn, whole, -is}
+use Rattle.quantities.proofs.Laws.Order.{min-is}
+use Rattle.quantities.specs.Linear.{whole, -is}
 use Rattle.quantities.specs.Order.{minℤ}
 use Rattle.tree.proofs.Laws.AnySplit.{meet, depth-any, clear-x}
-use Rattle.tree.proofs.Laws.Growing.{Split, Inner, parent-inner, split-tree, hops-up, hops-suc, member, inner-reach, PartTree}
-use Rattle.tree.proofs.Laws.Walks.{ancestor-more}
-use Rattle.tree.proofs.Laws.Insertion.{Least, ≤ℤ-trans, Grown, after, splits, fuel}
+use Rattle.tree.proofs.Laws.Growing.{Split, parent-inner, split-tree, hops-up, hops-suc, inner-reach, PartTree}
+use Rattle.tree.proofs.Laws.Insertion.{Least, ≤ℤ-trans, Grown, splits}
 use Rattle.tree.proofs.Laws.KraftSums.{depthIn}
 use Rattle.tree.proofs.Laws.Measures.{sub-sub}
 use Rattle.tree.proofs.Laws.Planning.{after-is, min-one}
 use Rattle.tree.proofs.Laws.SinkEdge.{in-pos}
-use Rattle.tree.proofs.Laws.Sums.{equal?, delta-self, delta-ne, down-in}
+use Rattle.tree.proofs.Laws.Sums.{equal?, delta-self, delta-ne}
 use Rattle.tree.proofs.Laws.Walks.{hops, hops-stable}
-use Rattle.tree.specs.Lists.{sumOver, delta, count, down, least}
-use Rattle.tree.specs.Measures.{slack}
+use Rattle.tree.specs.Lists.{delta, count, down}
 use Rattle.tree.specs.Net.{Net, size, ownSlack}
-use Rattle.tree.specs.Planning.{split, unsettled, worstAfter, lowest}
-use Rattle.tree.specs.Tree.{parentOf, ancestor}
+use Rattle.tree.specs.Planning.{split, worstAfter, lowest}
+use Rattle.tree.specs.Tree.{parentOf}
 
 -- u is the least of f over those of the list that have v on their way up
 pub record LeastUnder (p : ℕ → ℕ) (F v : ℕ) (S : List ℕ) (f : ℕ → ℤ) (u : ℤ) : Type 0 where
