@@ -87,7 +87,7 @@ of-two (a ∷ (b ∷ [])) x e m = go (equal? x a) (equal? x b)
     go (inr q) (inr r) = absurd (omega (arith, delta-ne x a q, delta-ne x b r))
 of-two (a ∷ (b ∷ (c ∷ l))) x e m = absurd (omega arith)
 
-place-node : (N : Net) (Q : Tree) (j : ℕ) → place N Q (suc (size N + j)) ≡ getD (Q .points) j (N .root)
+pub place-node : (N : Net) (Q : Tree) (j : ℕ) → place N Q (suc (size N + j)) ≡ getD (Q .points) j (N .root)
 place-node N Q j =
     ap (λ m. getD (map (λ s. s .at) (N .sinks) ++ Q .points) (m + j) (N .root)) (sym (length-map (N .sinks) (λ s. s .at)))
     ∙ getD-append-add (map (λ s. s .at) (N .sinks)) (Q .points) j (N .root)
