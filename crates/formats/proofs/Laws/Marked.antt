@@ -1,0 +1,100 @@
+-- The marked nets and lines that speak of texts, by computation. Assumes nothing.
+use Prim.Native.Nat.{ℕ, _≤_}
+use mathlib.Core.Path.{_≡_, refl, ap, _∙_}
+use mathlib.Core.List.{List, [], _∷_}
+use native.Mathlib.Omega.{arith}
+use lib.ListN.{length}
+use lib.IntN.{ℤ, pos}
+use Rattle.quantities.specs.Linear.{whole}
+use Rattle.quantities.specs.Order.{minℤ, maxℤ}
+use Rattle.quantities.specs.Floor.{floorDiv}
+use Rattle.quantities.specs.Distance.{span, distance}
+use Rattle.quantities.specs.Median.{median, medianPoint}
+use Rattle.tree.specs.Net.{Net, delay}
+use Rattle.tree.specs.Tree.{Tree}
+use Rattle.tree.specs.Measures.{worstSlack, wireLength}
+use Rattle.tree.specs.Kraft.{kraftMaximum, searchDown}
+use Rattle.tree.specs.Settling.{plan, planBy}
+use Rattle.tree.specs.Marked.{netA, at}
+use Rattle.tree.proofs.Laws.Marked as tree
+use Rattle.formats.specs.Bytes.{bytes}
+use Rattle.formats.specs.Decimal.{digits, showNat, show, lead, natural, field}
+use Rattle.formats.specs.Decimal.{value as digitsValue}
+use Rattle.formats.specs.Line.{numberThen, rowIn, begins, lineIn}
+use Rattle.formats.specs.Reading.{value}
+use Rattle.formats.specs.NetText.{readNet}
+use Rattle.formats.specs.ListingText.{Listing, listingText, readListing}
+use Rattle.formats.specs.Answers.{planOf, planListing, planNet, planRead, planRefusal, judgeOf, judgeNet, judgeListing, judgeTree}
+use Rattle.formats.specs.Marked.{textA, textA1, listingA, Marked}
+use Rattle.formats.proofs.Laws.NetTexts.{net-sound}
+use Rattle.formats.proofs.Laws.Answers.{Ends, unreachable, short, written, ends}
+
+-- ---- what the texts are read as
+
+netA1 : Net
+netA1 = record { root = netA .root; branch = netA .branch; wire = netA .wire; need = pos 1; sinks = netA .sinks }
+
+read-A : readNet textA ≡ value netA
+unfolding readNet numberThen rowIn begins lineIn field natural digitsValue lead
+read-A = refl
+
+read-A1 : readNet textA1 ≡ value netA1
+unfolding netA1 readNet numberThen rowIn begins lineIn field natural digitsValue lead
+read-A1 = refl
+
+tree-of : List ℕ → Tree
+tree-of parents = record { parents = parents; points = at (pos 4) (pos 0) ∷ (at (pos 4) (pos 0) ∷ []) }
+
+-- a listing of A that is read as G, judged
+judged : (s : List ℕ) (G : Listing) → readListing 3 s ≡ value G → judgeOf textA s ≡ judgeTree netA G
+unfolding judgeOf
+judged s G e = ap (λ o. judgeNet o s) read-A ∙ ap (judgeListing netA) e
+
+listed : ℤ → ℕ → List ℕ → Listing
+listed slack wire parents = record { slack = slack; wire = wire; tree = tree-of parents }
+
+-- ---- A and its plan
+
+plan-A : planListing netA ≡ listingA
+unfolding planListing listingText digits showNat show worstSlack wireLength plan planBy minℤ maxℤ median medianPoint delay distance span
+plan-A = refl
+
+slack-A : worstSlack netA (plan netA) ≡ pos 0
+unfolding worstSlack plan planBy minℤ maxℤ median medianPoint delay distance span
+slack-A = refl
+
+wire-A : wireLength netA (plan netA) ≡ 32
+unfolding wireLength worstSlack plan planBy minℤ maxℤ median medianPoint delay distance span
+wire-A = refl
+
+A-figures : (room : ℕ) → length listingA ≤ room → planOf textA room ≡ record { number = 0; text = 0; line = 0; slack = pos 0; wire = 32; bytes = length listingA }
+unfolding planOf
+A-figures room h = ap (λ o. planRead o room) read-A ∙ go (ends netA room)
+  where
+    go : Ends netA room → planNet netA room ≡ record { number = 0; text = 0; line = 0; slack = pos 0; wire = 32; bytes = length listingA }
+    go (unreachable g f b) = absurd (omega (arith, whole, slack-A))
+    go (short g l f b) = absurd (omega (arith, ap length plan-A))
+    go (written g l f b) = f ∙ (λ i. record { number = 0; text = 0; line = 0; slack = slack-A i; wire = wire-A i; bytes = length (plan-A i) })
+
+A-unreachable : (room : ℕ) → planOf textA1 room ≡ planRefusal 5 1 4
+unfolding planOf netA1 worstSlack plan planBy minℤ maxℤ median medianPoint delay distance span
+A-unreachable room = ap (λ o. planRead o room) read-A1
+
+A-judged : judgeOf textA listingA ≡ record { number = 0; text = 0; line = 0; slack = pos 0; wire = 32; best = pos 0 }
+unfolding listed tree-of readListing numberThen rowIn begins lineIn field natural digitsValue lead worstSlack wireLength minℤ delay distance span kraftMaximum searchDown floorDiv
+A-judged = judged listingA (listed (pos 0) 32 (5 ∷ (5 ∷ (4 ∷ (0 ∷ (4 ∷ [])))))) refl
+
+pub marked : Marked
+unfolding listed tree-of readListing numberThen rowIn begins lineIn field natural digitsValue lead worstSlack wireLength minℤ delay distance span
+marked = record {
+  measures = tree.marked;
+  A-format = net-sound textA netA read-A;
+  A-listing = plan-A;
+  A-plan = A-figures;
+  A-judge = A-judged;
+  A-need = A-unreachable;
+  A-slack = judged _ (listed (pos 1) 32 (5 ∷ (5 ∷ (4 ∷ (0 ∷ (4 ∷ [])))))) refl;
+  A-wire = judged _ (listed (pos 0) 31 (5 ∷ (5 ∷ (4 ∷ (0 ∷ (4 ∷ [])))))) refl;
+  ring = judged _ (listed (pos 0) 32 (0 ∷ (4 ∷ (5 ∷ (5 ∷ (4 ∷ [])))))) refl;
+  four-children = judged _ (listed (pos 0) 32 (4 ∷ (4 ∷ (4 ∷ (0 ∷ (4 ∷ [])))))) refl;
+}

@@ -1,0 +1,61 @@
+-- The listing of a plan is in the format of listings, for every net in range. Assumes nothing.
+use Prim.Native.Nat.{ℕ, suc, _+_, _≤_, _<_}
+use mathlib.Core.Path.{_≡_, subst}
+use mathlib.Core.Logic.{_⊎_, inl, inr}
+use native.Mathlib.Omega.{arith}
+use lib.ListN.{length, getD}
+use native.Mathlib.Decide.{decLe}
+use Rattle.quantities.specs.Linear.{whole}
+use Rattle.quantities.specs.Reach.{Within, PointWithin}
+use Rattle.tree.specs.Net.{Net, size}
+use Rattle.tree.specs.Tree.{LegalTree}
+use Rattle.tree.specs.Limits.{positionLimit, needLimit, InRange}
+use Rattle.tree.specs.Measures.{worstSlack, wireLength}
+use Rattle.tree.specs.Planning.{lowest}
+use Rattle.tree.specs.Settling.{plan}
+use Rattle.tree.proofs.Laws.LegalTrees.{somewhere}
+use Rattle.tree.proofs.Laws.Settling.{place-node}
+use Rattle.tree.proofs.Laws.Theorem1.{plan-legal}
+use Rattle.tree.proofs.Laws.Limits.{plan-within, wire-range, slack-range}
+use Rattle.formats.specs.ListingText.{Listing, ListingInRange, ListingInFormat}
+use Rattle.formats.specs.Answers.{planListing}
+use Rattle.formats.proofs.Laws.Elements.{All, all-at, all-of}
+use Rattle.formats.proofs.Laws.TextLengths.{listing-in-format}
+
+-- the planned tree with its true slack and wire
+abbrev pub planned : Net → Listing
+planned N = record { slack = worstSlack N (plan N); wire = wireLength N (plan N); tree = plan N }
+
+module _ (N : Net) (R : InRange N) where
+  pub planned-legal : LegalTree N (plan N)
+  unfolding plan
+  planned-legal = plan-legal N (R .branch .0) (R .sinks .0) lowest
+
+  pub plan-in-range : ListingInRange (size N) (planned N)
+  unfolding plan
+  plan-in-range =
+      let L : LegalTree N (plan N) = planned-legal in
+      let w : Within needLimit (worstSlack N (plan N)) = slack-range lowest N R in
+      let near : All (PointWithin positionLimit) (plan N .points) =
+      all-of (PointWithin positionLimit) (plan N .points) (N .root) (λ i l. subst (PointWithin positionLimit) (place-node N (plan N) i) (plan-within lowest N R (suc (size N + i)) (omega (arith, L .placed, R .sinks)))) in
+      record {
+        slack = omega (arith, whole);
+        wire = wire-range lowest N R;
+        sinks = R .sinks;
+        parents-all = L .shape .size;
+        points-all = L .placed;
+        parents = L .shape .inside;
+        points = λ i l. all-at (PointWithin positionLimit) (plan N .points) near i _ l;
+      }
+
+  no-sink : (i : ℕ) → i < length (plan N .parents) → (getD (plan N .parents) i 0 ≡ 0) ⊎ (size N < getD (plan N .parents) i 0)
+  no-sink i h = go (decLe (suc (size N)) (getD (plan N .parents) i 0)) (decLe 1 (getD (plan N .parents) i 0))
+    where
+      go : Dec (suc (size N) ≤ getD (plan N .parents) i 0) → Dec (1 ≤ getD (plan N .parents) i 0) → (getD (plan N .parents) i 0 ≡ 0) ⊎ (size N < getD (plan N .parents) i 0)
+      go (yes p) q = inr p
+      go (no p) (yes q) = absurd (somewhere (plan N .parents) i h (planned-legal .shape .sink (getD (plan N .parents) i 0) q (omega arith)))
+      go (no p) (no q) = inl (omega arith)
+
+  pub plan-listing : ListingInFormat (size N) (planListing N) (planned N)
+  unfolding planListing
+  plan-listing = listing-in-format (size N) (planned N) plan-in-range no-sink

@@ -1,0 +1,108 @@
+-- The text of a net in range, or of a listing in range, is within its length, so it is in the format. Assumes nothing.
+use Prim.Native.Nat.{ℕ, zero, suc, _+_, _*_, _-_, _^_, _≤_, _<_}
+use mathlib.Core.Path.{_≡_, refl}
+use mathlib.Core.Logic.{_⊎_}
+use mathlib.Core.List.{List, [], _∷_}
+use lib.ListN.{length, getD, length-append}
+use lib.IntN.{ℤ, pos}
+use native.Mathlib.Omega.{arith}
+use Rattle.quantities.specs.Linear.{abs-le}
+use Rattle.quantities.specs.Reach.{Within}
+use Rattle.tree.specs.Lists.{range}
+use Rattle.tree.specs.Net.{Net, Sink, size}
+use Rattle.tree.specs.Tree.{parentOf}
+use Rattle.tree.specs.Limits.{positionLimit, needLimit, requiredLimit, slackLimit, InRange}
+use Rattle.formats.specs.Decimal.{show}
+use Rattle.formats.specs.NetText.{netLengthLimit, sinksText, netText, InFormat}
+use Rattle.formats.specs.ListingText.{listingLengthLimit, Listing, nodePoint, leafText, nodeText, linesText, listingText, ListingInRange, ListingInFormat}
+use Rattle.formats.proofs.Laws.Decimal.{showNat-length, show-length}
+use Rattle.formats.proofs.Laws.Elements.{All}
+use Rattle.formats.proofs.Laws.NetTexts.{SinkIn, sinks-in}
+
+-- ---- numbers
+
+-- a natural number below 10^k
+plain : (n k : ℕ) → n < 10 ^ k → 1 ≤ k → length (show (pos n)) ≤ k
+unfolding show
+plain n k h p = showNat-length n k h p
+
+-- a number from -m to m, where m is below 10^k
+ranged : (m k : ℕ) (z : ℤ) → Within m z → m < 10 ^ k → 1 ≤ k → length (show z) ≤ k + 1
+ranged m k z h b p = let a = abs-le z m (h .0) (h .1) in show-length z k (omega arith) p
+
+position : (z : ℤ) → Within positionLimit z → length (show z) ≤ 7
+position z h = ranged positionLimit 6 z h (omega arith) (omega arith)
+
+-- ---- a net
+
+sinks-short : (l : List Sink) → All SinkIn l → length (sinksText l) ≤ length l * 36
+sinks-short [] h = omega arith
+sinks-short (s ∷ l) h =
+    simp length-append
+    (omega (arith, position (s .at .x) (h .0 .0 .0), position (s .at .y) (h .0 .0 .1), ranged requiredLimit 13 (s .required) (h .0 .1) (omega arith) (omega arith), sinks-short l (h .1)))
+
+pub net-short : (N : Net) → InRange N → length (netText N) ≤ netLengthLimit
+unfolding netText
+net-short N h =
+    simp length-append
+    (omega (
+      arith,
+      position (N .root .x) (h .root .0),
+      position (N .root .y) (h .root .1),
+      plain (N .branch) 7 (omega arith) (omega arith),
+      plain (N .wire) 5 (omega arith) (omega arith),
+      ranged needLimit 13 (N .need) (h .need) (omega arith) (omega arith),
+      plain (size N) 3 (omega arith) (omega arith),
+      sinks-short (N .sinks) (sinks-in N h),
+    ))
+
+-- ---- a listing
+
+lines-short : (f : ℕ → List ℕ) (b a m : ℕ) → ((k : ℕ) → a ≤ k → k < a + m → length (f k) ≤ b) → length (linesText f (range a m)) ≤ m * b
+lines-short f b a zero h = omega arith
+lines-short f b a (suc m) h =
+    simp length-append (omega (arith, h a (omega arith) (omega arith), lines-short f b (suc a) m (λ k p q. h k (omega arith) (omega arith))))
+
+module _ (n : ℕ) (G : Listing) (h : ListingInRange n G) where
+  parent-low : (k : ℕ) → 1 ≤ k → k < 2 * n → parentOf (G .tree .parents) k < 2 * n
+  parent-low zero p q = absurd (omega arith)
+  parent-low (suc i) p q = h .parents i (omega (arith, h .parents-all))
+
+  leaf-short : (k : ℕ) → 1 ≤ k → k < 1 + n → length (leafText (G .tree .parents) k) ≤ 14
+  leaf-short k p q =
+      let w : parentOf (G .tree .parents) k < 2 * n = parent-low k p (omega arith) in
+      simp length-append (omega (arith, plain k 3 (omega arith) (omega arith), plain (parentOf (G .tree .parents) k) 4 (omega arith) (omega arith)))
+
+  node-short : (k : ℕ) → suc n ≤ k → k < suc n + (n - 1) → length (nodeText n (G .tree) k) ≤ 31
+  node-short k p q =
+      let w : parentOf (G .tree .parents) k < 2 * n = parent-low k (omega arith) (omega arith) in
+      let c = h .points (k - suc n) (omega (arith, h .points-all)) in
+      simp length-append
+      (omega (
+        arith,
+        plain k 4 (omega arith) (omega arith),
+        plain (parentOf (G .tree .parents) k) 4 (omega arith) (omega arith),
+        position (nodePoint n (G .tree .points) k .x) (c .0),
+        position (nodePoint n (G .tree .points) k .y) (c .1),
+      ))
+
+  pub listing-short : length (listingText n G) ≤ listingLengthLimit
+  unfolding listingText
+  listing-short =
+      simp length-append
+      (omega (
+        arith,
+        ranged slackLimit 13 (G .slack) (h .slack) (omega arith) (omega arith),
+        plain (G .wire) 10 (omega arith) (omega arith),
+        plain n 3 (omega arith) (omega arith),
+        lines-short (leafText (G .tree .parents)) 14 1 n leaf-short,
+        lines-short (nodeText n (G .tree)) 31 (suc n) (n - 1) node-short,
+      ))
+
+-- ---- so what is in range has a text in the format
+
+pub net-in-format : (N : Net) → InRange N → InFormat (netText N) N
+net-in-format N h = record { spelled = refl; in-range = h; short = net-short N h }
+
+pub listing-in-format : (n : ℕ) (G : Listing) → ListingInRange n G → ((i : ℕ) → i < length (G .tree .parents) → (getD (G .tree .parents) i 0 ≡ 0) ⊎ (n < getD (G .tree .parents) i 0)) → ListingInFormat n (listingText n G) G
+listing-in-format n G h f = record { spelled = refl; in-range = h; short = listing-short n G h; no-sink = f }

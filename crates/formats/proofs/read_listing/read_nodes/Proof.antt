@@ -1,0 +1,170 @@
+use Prim.Native.Nat.{_*_, _-_, _≤_, _<_}
+use mathlib.Core.Path.{_≡_, refl, sym, ap, subst, _∙_}
+use native.Mathlib.Omega.{arith}
+use lib.ListN.{length, drop, length-set}
+use lib.IntN.{pos}
+use mir.Facts.{toZ-ofZ}
+use denote.Ref.{now}
+use borrow.Author.Needs.{needs}
+use Rattle.quantities.specs.Linear.{rd, fit}
+use Rattle.formats.specs.ListingReader.{nodeOutcome, NodeWithin}
+use Rattle.formats.proofs.Laws.ListingLines.{NodesTo, Kept, kept-more, nodes-start, nodes-more, nodes-refused, nodes-all}
+use Rattle.formats.proofs.read_listing.read_nodes.Statement.{statement}
+use Rattle.formats.proofs.read_listing.read_nodes.Tie as tie
+
+abbrev Inv-loop : tie.InvT-loop
+Inv-loop text from n parents₀ xs₀ ys₀ at₀ k₀ parents xs ys at k =
+    (n < k) × (k ≤ 2 * n) × (at ≤ length text)
+    × ((length parents ≡ length parents₀) × (length xs ≡ length xs₀) × (length ys ≡ length ys₀))
+    × (Kept 0 n parents₀ parents × Kept (pos 0) n xs₀ xs × Kept (pos 0) n ys₀ ys)
+    × NodesTo n text from parents xs ys at k
+
+abbrev μ-loop : tie.MeasureT-loop
+μ-loop text from n parents₀ xs₀ ys₀ at₀ k₀ parents xs ys at k = 2 * n - k
+
+add-k : tie.Need-add-k Inv-loop μ-loop
+add-k c = omega arith
+
+loop-holds : tie.Need-loop-holds Inv-loop μ-loop
+loop-holds c =
+    let b = c .before .before in
+    let a = b .args in (
+      omega arith,
+      omega arith,
+      b .pre .0,
+      (refl, refl, refl),
+      (λ v h. refl, λ v h. refl, λ v h. refl),
+      nodes-start (a .n) (now (a .text)) (a .from) (now (a .parents)) (now (a .xs)) (now (a .ys)) (omega arith),
+    )
+
+mul-loop : tie.Need-mul-loop Inv-loop μ-loop
+mul-loop c = omega arith
+
+node-at-requires : tie.Need-node-at-requires Inv-loop μ-loop
+node-at-requires c κs = omega arith
+
+enum-known-parent : tie.Need-enum-known-parent Inv-loop μ-loop
+enum-known-parent c = search needs
+
+mul-parents : tie.Need-mul-parents Inv-loop μ-loop
+mul-parents c = omega arith
+
+slice-write-parents : tie.Need-slice-write-parents Inv-loop μ-loop
+slice-write-parents c = omega arith
+
+mul-x : tie.Need-mul-x Inv-loop μ-loop
+mul-x c = omega arith
+
+slice-set-from-x : tie.Need-slice-set-from-x Inv-loop μ-loop
+slice-set-from-x c = omega arith
+
+mul-y : tie.Need-mul-y Inv-loop μ-loop
+mul-y c = omega arith
+
+slice-set-from-y : tie.Need-slice-set-from-y Inv-loop μ-loop
+slice-set-from-y c = omega arith
+
+add-k-2 : tie.Need-add-k-2 Inv-loop μ-loop
+add-k-2 c = omega arith
+
+loop-less : tie.Need-loop-less Inv-loop μ-loop
+loop-less c = omega arith
+
+loop-again : tie.Need-loop-again Inv-loop μ-loop
+loop-again c =
+    let r = c .before .before .before .node-at in
+    let w = c .before .before .before .before .before .loop in
+    let a = c .before .before .before .before .before .before .before .before .args in
+    let g = c .before .parent .given in
+    let x = toZ-ofZ (fit (g .0 .1 .0) (c .known-told .given .1 .0 .1)) in
+    let y = toZ-ofZ (fit (g .0 .1 .1 .0) (c .known-told .given .1 .1 .0 .1)) in (
+      omega arith,
+      omega arith,
+      subst (λ o. NodeWithin o (now (a .text))) (g .1) (r .ensures .1),
+      (simp length-set (w .inv .3 .0), simp length-set (w .inv .3 .1), simp length-set (w .inv .3 .2)),
+      (
+        kept-more 0 (a .n) (w .k) (now (a .parents)) (w .parents) (g .0 .0) (w .inv .0) (w .inv .4 .0),
+        kept-more (pos 0) (a .n) (w .k) (now (a .xs)) (w .xs) (rd (g .0 .1 .0)) (w .inv .0) (w .inv .4 .1),
+        kept-more (pos 0) (a .n) (w .k) (now (a .ys)) (w .ys) (rd (g .0 .1 .1 .0)) (w .inv .0) (w .inv .4 .2),
+      ),
+      nodes-more (a .n) (now (a .text)) (a .from) (w .parents) (w .xs) (w .ys) (w .at) (w .k) (w .inv .5)
+          (omega arith) (omega arith) (omega arith) (omega arith) (omega arith) (g .0 .0) (rd (g .0 .1 .0)) (rd (g .0 .1 .1 .0)) (g .0 .1 .1 .1 .0)
+          (λ l next.
+          r .ensures .0 l next
+          ∙ ap (λ o. nodeOutcome o l (now (a .text)) next) (g .1)
+          ∙ (λ i. next (g .0 .0) (record { x = sym x i; y = sym y i }) (drop (g .0 .1 .1 .1 .0) (now (a .text))))),
+    )
+
+enum-known-number : tie.Need-enum-known-number Inv-loop μ-loop
+enum-known-number c = search needs
+
+add-t21 : tie.Need-add-t21 Inv-loop μ-loop
+add-t21 c = omega arith
+
+same-length : tie.Need-same-length Inv-loop μ-loop
+same-length c = omega arith
+
+same-length-2 : tie.Need-same-length-2 Inv-loop μ-loop
+same-length-2 c = omega arith
+
+same-length-3 : tie.Need-same-length-3 Inv-loop μ-loop
+same-length-3 c = omega arith
+
+returns : tie.Need-returns Inv-loop μ-loop
+returns c =
+    let r = c .before .before .before .node-at in
+    let w = c .before .before .before .before .before .loop in
+    let a = c .before .before .before .before .before .before .before .before .args in
+    let g = c .before .number .given in (
+      nodes-refused (a .n) (now (a .text)) (a .from) (w .parents) (w .xs) (w .ys) (w .at) (w .k) (w .inv .5) (omega arith) (g .0 .0)
+          (λ l next. r .ensures .0 l next ∙ ap (λ o. nodeOutcome o l (now (a .text)) next) (g .1)),
+      (tt, (w .inv .4 .0, λ v h i. record { x = w .inv .4 .1 v h i; y = w .inv .4 .2 v h i })),
+    )
+
+same-length-4 : tie.Need-same-length-4 Inv-loop μ-loop
+same-length-4 c = omega arith
+
+same-length-5 : tie.Need-same-length-5 Inv-loop μ-loop
+same-length-5 c = omega arith
+
+same-length-6 : tie.Need-same-length-6 Inv-loop μ-loop
+same-length-6 c = omega arith
+
+returns-2 : tie.Need-returns-2 Inv-loop μ-loop
+returns-2 c =
+    let w = c .before .loop in
+    let a = c .before .before .before .before .args in (
+      nodes-all (a .n) (now (a .text)) (a .from) (w .parents) (w .xs) (w .ys) (w .at) (w .k) (w .inv .5) (omega arith),
+      (w .inv .2, (w .inv .4 .0, λ v h i. record { x = w .inv .4 .1 v h i; y = w .inv .4 .2 v h i })),
+    )
+
+pub read-nodes-spec : {M : Type 1} → statement M
+read-nodes-spec =
+    tie.close
+    (tie.spec
+    Inv-loop
+    μ-loop
+    add-k
+    loop-holds
+    mul-loop
+    node-at-requires
+    enum-known-parent
+    mul-parents
+    slice-write-parents
+    mul-x
+    slice-set-from-x
+    mul-y
+    slice-set-from-y
+    add-k-2
+    loop-less
+    loop-again
+    enum-known-number
+    add-t21
+    same-length
+    same-length-2
+    same-length-3
+    returns
+    same-length-4
+    same-length-5
+    same-length-6
+    returns-2)

@@ -1,0 +1,39 @@
+-- The marked nets and lines of document 01, those with a star, as one statement: what it says of texts here, the rest in the tree's own.
+use Prim.Native.Nat.{ℕ, _≤_}
+use mathlib.Core.Path.{_≡_}
+use mathlib.Core.List.{List}
+use lib.ListN.{length}
+use lib.IntN.{pos}
+use Rattle.tree.specs.Marked as tree
+use Rattle.formats.specs.Bytes.{bytes}
+use Rattle.formats.specs.NetText.{InFormat}
+use Rattle.formats.specs.Answers.{planOf, planListing, planRefusal, judgeOf, judgeRefusal}
+
+-- A, and A with `need=1`
+abbrev pub textA : List ℕ
+textA = bytes "root=0,0\nbranch=20\nwire=2\nneed=0\nsinks=3\nsink=10,0,100\nsink=4,6,60\nsink=10,10,70\n"
+
+abbrev pub textA1 : List ℕ
+textA1 = bytes "root=0,0\nbranch=20\nwire=2\nneed=1\nsinks=3\nsink=10,0,100\nsink=4,6,60\nsink=10,10,70\n"
+
+-- "prints exactly, a line each"
+abbrev pub listingA : List ℕ
+listingA = bytes "slack=0\nwire=32\nsinks=3\nleaf=1,5\nleaf=2,5\nleaf=3,4\nnode=4,0,4,0\nnode=5,4,4,0\n"
+
+pub record Marked : Type 0 where
+  pub measures : tree.Marked
+  pub A-format : InFormat textA tree.netA
+  pub A-listing : planListing tree.netA ≡ listingA
+  -- "slack=0", "wire=32", and the listing's bytes, into any output that has room for them
+  pub A-plan : (room : ℕ) → length listingA ≤ room → planOf textA room ≡ record { number = 0; text = 0; line = 0; slack = pos 0; wire = 32; bytes = length listingA }
+  -- "The judge program, given A in net.txt and this in tree.txt, prints `slack=0`, `wire=32`, `best=0`."
+  pub A-judge : judgeOf textA listingA ≡ record { number = 0; text = 0; line = 0; slack = pos 0; wire = 32; best = pos 0 }
+  -- "A with `need=1`: 5,1,4", whatever the output's length
+  pub A-need : (room : ℕ) → planOf textA1 room ≡ planRefusal 5 1 4
+  -- "A's listing with `slack=1`: 11,2,1. With `wire=31`: 12,2,2."
+  pub A-slack : judgeOf textA (bytes "slack=1\nwire=32\nsinks=3\nleaf=1,5\nleaf=2,5\nleaf=3,4\nnode=4,0,4,0\nnode=5,4,4,0\n") ≡ judgeRefusal 11 2 1
+  pub A-wire : judgeOf textA (bytes "slack=0\nwire=31\nsinks=3\nleaf=1,5\nleaf=2,5\nleaf=3,4\nnode=4,0,4,0\nnode=5,4,4,0\n") ≡ judgeRefusal 12 2 2
+  -- "n = 3, parents of 1 to 5 are 0, 4, 5, 5, 4: 10,2,5."
+  pub ring : judgeOf textA (bytes "slack=0\nwire=32\nsinks=3\nleaf=1,0\nleaf=2,4\nleaf=3,5\nnode=4,5,4,0\nnode=5,4,4,0\n") ≡ judgeRefusal 10 2 5
+  -- "n = 3, parents 4, 4, 4, 0, 4: 9,2,7."
+  pub four-children : judgeOf textA (bytes "slack=0\nwire=32\nsinks=3\nleaf=1,4\nleaf=2,4\nleaf=3,4\nnode=4,0,4,0\nnode=5,4,4,0\n") ≡ judgeRefusal 9 2 7

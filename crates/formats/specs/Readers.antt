@@ -1,0 +1,88 @@
+-- What the answers of the two readers mean, by the declared types and the arrays that they fill. Definitions alone.
+use Prim.Native.Nat.{ℕ, _+_, _≤_}
+use mathlib.Core.Path.{_≡_}
+use mathlib.Core.List.{List, [], _∷_}
+use lib.ListN.{length, drop, set}
+use lib.IntN.{ℤ, natAbs}
+use Rattle.quantities.specs.declared.point.Point.{Point}
+use Rattle.quantities.specs.Linear.{up}
+use Rattle.tree.specs.declared.header.Header.{Header}
+use Rattle.tree.specs.Net.{Net, Sink}
+use Rattle.tree.specs.Arrays.{netOf, treeOf}
+use Rattle.tree.specs.Limits.{branchLimit, wireFactorLimit, needLimit, sinkLimit}
+use Rattle.formats.specs.Reading.{at, Outcome, value, refused, due, ended}
+use Rattle.formats.specs.NetText.{branchKey, wireKey, needKey, sinksKey, sinkKey, around, upTo, sinkRanges, readSinks}
+use Rattle.formats.specs.ListingText.{Listing}
+use Rattle.formats.specs.declared.read_net.Head.{Head}
+use Rattle.formats.specs.declared.read_net.Head.the-variants.{HeadRead, HeadRefused}
+use Rattle.formats.specs.declared.read_net.SinkLine.{SinkLine}
+use Rattle.formats.specs.declared.read_net.SinkLine.the-variants.{SinkRead, SinkRefused}
+use Rattle.formats.specs.declared.read_net.NetRead.{NetRead}
+use Rattle.formats.specs.declared.read_net.NetRead.the-variants.{Net as ReadNet, NetRefused}
+use Rattle.formats.specs.declared.read_listing.ListingRead.{ListingRead}
+use Rattle.formats.specs.declared.read_listing.ListingRead.the-variants.{Stated, ListingRefused}
+
+-- a net from its header, its root and its sinks
+abbrev pub netFrom : Header → Point → List Sink → Net
+netFrom h root sinks = record { root = root; branch = up (h .branch .0); wire = h .wire .0; need = h .need .0; sinks = sinks }
+
+-- the lines of the n sinks, and the text's end
+abbrev pub fromSinks : Header → Point → ℕ → List ℕ → Outcome Net
+fromSinks h root n s = readSinks n 6 s (λ sinks r. ended (n + 6) r (netFrom h root sinks))
+
+-- what is left to read after the first five lines
+abbrev pub afterHead : Head → List ℕ → Outcome Net
+afterHead (HeadRead h root n next) s = fromSinks h root n (drop next s)
+afterHead (HeadRefused number line) s = refused number line
+
+-- the sinks are few enough for the arrays, and their lines start in the text
+abbrev pub HeadWithin : Head → List ℕ → Type 0
+HeadWithin (HeadRead h root n next) s = (n ≤ sinkLimit) × (next ≤ length s)
+HeadWithin (HeadRefused number line) s = Unit {0}
+
+-- the lines from `sinks=` on, where those before it are read; then from each line before it on
+abbrev pub fromCount : Point → ℕ → ℕ → ℤ → List ℕ → Outcome Net
+fromCount root c d t s =
+    due 5 sinksKey (upTo sinkLimit ∷ []) s λ count s₁.
+    readSinks (natAbs (at count 0)) 6 s₁ λ sinks s₂.
+    ended (natAbs (at count 0) + 6) s₂ (record { root = root; branch = c; wire = d; need = t; sinks = sinks })
+
+abbrev pub fromNeed : Point → ℕ → ℕ → List ℕ → Outcome Net
+fromNeed root c d s = due 4 needKey (around needLimit ∷ []) s λ need s₁. fromCount root c d (at need 0) s₁
+
+abbrev pub fromWire : Point → ℕ → List ℕ → Outcome Net
+fromWire root c s = due 3 wireKey (upTo wireFactorLimit ∷ []) s λ wire s₁. fromNeed root c (natAbs (at wire 0)) s₁
+
+abbrev pub fromBranch : Point → List ℕ → Outcome Net
+fromBranch root s = due 2 branchKey (upTo branchLimit ∷ []) s λ branch s₁. fromWire root (natAbs (at branch 0)) s₁
+
+-- an answer that comes to the outcome o on the text s
+pub record Heads (o : Outcome Net) (s : List ℕ) (r : Head) : Type 0 where
+  pub reads : o ≡ afterHead r s
+  pub within : HeadWithin r s
+
+-- the line of a sink was read into the place i of the arrays, and the next line starts at `next`
+pub record SinkStored (s : List ℕ) (at i : ℕ) (xs ys required : List ℤ) (next : ℕ) (xs′ ys′ required′ : List ℤ) : Type 0 where
+  pub x : ℤ
+  pub y : ℤ
+  pub a : ℤ
+  pub reads : (l : ℕ) (cont : List ℤ → List ℕ → Outcome Net) → due l sinkKey sinkRanges (drop at s) cont ≡ cont (x ∷ (y ∷ (a ∷ []))) (drop next s)
+  pub within : next ≤ length s
+  pub xs-is : xs′ ≡ set xs i x
+  pub ys-is : ys′ ≡ set ys i y
+  pub required-is : required′ ≡ set required i a
+
+-- what an answer to the line of a sink at `at` says: xs′, ys′ and required′ are the arrays after it
+abbrev pub SinkSays : List ℕ → ℕ → ℕ → List ℤ → List ℤ → List ℤ → SinkLine → List ℤ → List ℤ → List ℤ → Type 0
+SinkSays s at i xs ys required (SinkRead next) xs′ ys′ required′ = SinkStored s at i xs ys required next xs′ ys′ required′
+SinkSays s at i xs ys required (SinkRefused number) xs′ ys′ required′ = (l : ℕ) (cont : List ℤ → List ℕ → Outcome Net) → due l sinkKey sinkRanges (drop at s) cont ≡ refused number l
+
+-- the net that the arrays hold, or the refusal
+abbrev pub netOutcome : NetRead → List ℤ → List ℤ → List ℤ → Outcome Net
+netOutcome (ReadNet h n) xs ys required = value (netOf h n xs ys required)
+netOutcome (NetRefused number line) xs ys required = refused number line
+
+-- the listing that the arrays hold, or the refusal
+abbrev pub listingOutcome : ListingRead → ℕ → List ℕ → List ℤ → List ℤ → Outcome Listing
+listingOutcome (Stated slack wire) n parents xs ys = value (record { slack = slack .0; wire = wire .0; tree = treeOf n parents xs ys })
+listingOutcome (ListingRefused number line) n parents xs ys = refused number line

@@ -1,0 +1,176 @@
+// Judge: a net and a listing in, the listing's measures and the net's Kraft maximum out.
+ghost use mathlib.Core.Path.{_≡_};
+ghost use Prim.Native.Nat.{_*_, _≤_, _<_};
+ghost use lib.ListN.{length};
+ghost use Rattle.tree.specs.Arrays.{netOf, treeOf, HoldsNet, HoldsTree};
+ghost use Rattle.formats.specs.Answers.{judgeFigures, vertexLine, judgeFiguresOf, judgeTree, judgeListing, judgeOf};
+ghost use Rattle.formats.specs.ListingText.{readListing};
+use crate::answers::JudgeAnswer;
+use crate::read_listing::ListingRead;
+use crate::read_listing::read_listing;
+use crate::read_net::NetRead;
+use crate::read_net::read_net;
+use quantities::length::Length;
+use quantities::time::Time;
+use tree::children::wrong_children;
+use tree::found::Found;
+use tree::header::Header;
+use tree::measure::measure;
+use tree::plan::kraft_maximum;
+use tree::reach::lowest_unreached;
+
+// The line of vertex v in a listing; 0 for the root, which has none.
+fn vertex_line(v: usize) -> usize
+    requires { ⌜ v < 1024 ⌝ }
+    ensures { λ r. ⌜ r ≡ vertexLine v ⌝ }
+{
+    if v == 0 { 0 } else { v + 3 }
+}
+
+// The judgement of the stated slack and wire of a tree.
+fn judge_stated(
+    header: Header,
+    n: usize,
+    xs: &[i64],
+    ys: &[i64],
+    required: &[i64],
+    parents: &[usize],
+    slack: Time,
+    wire: Length,
+) -> JudgeAnswer
+    requires { ⌜ HoldsNet header n (now xs) (now ys) (now required) × HoldsTree n (now parents) (now xs) (now ys) ⌝ }
+    ensures { λ r. ⌜ judgeFigures r ≡ judgeFiguresOf (netOf header n (now (xs .entry)) (now (ys .entry)) (now (required .entry))) (record { slack = slack .0; wire = wire .0; tree = treeOf n (now (parents .entry)) (now (xs .entry)) (now (ys .entry)) }) ⌝ }
+{
+    let tally = measure(header, n, parents, xs, ys, required);
+    let worst = tally.worst;
+    let total = tally.wire;
+    if slack.is_less(worst) {
+        return JudgeAnswer::JudgeRefused {
+            number: 11,
+            text: 2,
+            line: 1,
+        };
+    }
+    if worst.is_less(slack) {
+        return JudgeAnswer::JudgeRefused {
+            number: 11,
+            text: 2,
+            line: 1,
+        };
+    }
+    if wire.value() != total.value() {
+        return JudgeAnswer::JudgeRefused {
+            number: 12,
+            text: 2,
+            line: 2,
+        };
+    }
+    let mut other = [0usize; 1024];
+    let mut own = [0i64; 513];
+    let mut slacks = [0i64; 513];
+    let mut room = [0usize; 512];
+    let best = kraft_maximum(
+        header,
+        n,
+        xs,
+        ys,
+        required,
+        &mut other,
+        &mut own,
+        &mut slacks,
+        &mut room,
+    );
+    JudgeAnswer::Accepted {
+        slack: worst,
+        wire: total,
+        best,
+    }
+}
+
+// The judgement of a tree that stands in the arrays, with its stated slack and wire.
+fn judge_tree(
+    header: Header,
+    n: usize,
+    xs: &[i64],
+    ys: &[i64],
+    required: &[i64],
+    parents: &[usize],
+    slack: Time,
+    wire: Length,
+) -> JudgeAnswer
+    requires { ⌜ HoldsNet header n (now xs) (now ys) (now required) × HoldsTree n (now parents) (now xs) (now ys) ⌝ }
+    ensures { λ r. ⌜ judgeFigures r ≡ judgeTree (netOf header n (now (xs .entry)) (now (ys .entry)) (now (required .entry))) (record { slack = slack .0; wire = wire .0; tree = treeOf n (now (parents .entry)) (now (xs .entry)) (now (ys .entry)) }) ⌝ }
+{
+    let mut room = [0usize; 1024];
+    if let Found::At(v) = wrong_children(n, parents, &mut room) {
+        return JudgeAnswer::JudgeRefused {
+            number: 9,
+            text: 2,
+            line: vertex_line(v),
+        };
+    }
+    if let Found::At(v) = lowest_unreached(n, parents) {
+        return JudgeAnswer::JudgeRefused {
+            number: 10,
+            text: 2,
+            line: vertex_line(v),
+        };
+    }
+    judge_stated(header, n, xs, ys, required, parents, slack, wire)
+}
+
+// The judgement of a listing over a net that stands in the arrays.
+fn judge_listing(
+    header: Header,
+    n: usize,
+    xs: &mut [i64],
+    ys: &mut [i64],
+    required: &[i64],
+    listing: &[u8],
+) -> JudgeAnswer
+    requires { ⌜ HoldsNet header n (now xs) (now ys) (now required) × (2 * n ≤ length (now xs)) × (2 * n ≤ length (now ys)) ⌝ }
+    ensures { λ r. ⌜ judgeFigures r ≡ judgeListing (netOf header n (now (xs .entry)) (now (ys .entry)) (now (required .entry))) (readListing n (now (listing .entry))) ⌝ }
+{
+    let mut parents = [0usize; 1024];
+    match read_listing(listing, n, &mut parents, xs, ys) {
+        ListingRead::ListingRefused { number, line } => JudgeAnswer::JudgeRefused {
+            number,
+            text: 2,
+            line,
+        },
+        ListingRead::Stated { slack, wire } => judge_tree(
+            header,
+            n,
+            xs,
+            ys,
+            required,
+            &parents,
+            slack,
+            wire,
+        ),
+    }
+}
+
+// Any two texts get an answer.
+pub fn judge(net: &[u8], listing: &[u8]) -> JudgeAnswer
+    ensures { λ r. ⌜ judgeFigures r ≡ judgeOf (now (net .entry)) (now (listing .entry)) ⌝ }
+{
+    let mut xs = [0i64; 1024];
+    let mut ys = [0i64; 1024];
+    let mut required = [0i64; 513];
+    match read_net(net, &mut xs, &mut ys, &mut required) {
+        NetRead::NetRefused { number, line } => JudgeAnswer::JudgeRefused {
+            number,
+            text: 1,
+            line,
+        },
+        NetRead::Net { header, n } => judge_listing(
+            header,
+            n,
+            &mut xs,
+            &mut ys,
+            &required,
+            listing,
+        ),
+    }
+}

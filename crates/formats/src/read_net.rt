@@ -1,0 +1,237 @@
+// Reads a net text into arrays, or finds what is wrong with it first.
+ghost use mathlib.Core.Path.{_≡_};
+ghost use Prim.Native.Nat.{_≤_, _<_};
+ghost use lib.ListN.{length, drop};
+ghost use Rattle.quantities.specs.Linear.{up};
+ghost use Rattle.tree.specs.Arrays.{pointAt};
+ghost use Rattle.formats.specs.NetText.{readNet};
+ghost use Rattle.formats.specs.Readers.{afterHead, HeadWithin, Heads, fromBranch, fromWire, fromNeed, fromCount, fromSinks, SinkSays, netOutcome};
+use crate::limits::BRANCH_LIMIT;
+use crate::limits::NEED_LIMIT;
+use crate::limits::NET_LENGTH_LIMIT;
+use crate::limits::POSITION_LIMIT;
+use crate::limits::REQUIRED_LIMIT;
+use crate::limits::SINK_LIMIT;
+use crate::limits::WIRE_FACTOR_LIMIT;
+use crate::ranges::is_around;
+use crate::ranges::is_up_to;
+use crate::scan::Line;
+use crate::scan::line_at;
+use quantities::point::Point;
+use quantities::time::Time;
+use quantities::wire_factor::WireFactor;
+use tree::header::Header;
+
+// The first five lines, and where the sinks' lines start; or the number and the line of a refusal.
+pub enum Head {
+    HeadRead {
+        header: Header,
+        root: Point,
+        n: usize,
+        next: usize,
+    },
+    HeadRefused {
+        number: u8,
+        line: usize,
+    },
+}
+
+// Where the line after a sink's starts; or the number of a refusal.
+enum SinkLine {
+    SinkRead { next: usize },
+    SinkRefused { number: u8 },
+}
+
+// The header and the number of sinks of a net that stands in the arrays; or a refusal.
+pub enum NetRead {
+    Net { header: Header, n: usize },
+    NetRefused { number: u8, line: usize },
+}
+
+// The first five lines of a text.
+pub fn read_head(text: &[u8]) -> Head
+    ensures { λ r. ⌜ readNet (now (text .entry)) ≡ afterHead r (now (text .entry)) ⌝ }
+    ensures within { λ r. ⌜ HeadWithin r (now (text .entry)) ⌝ }
+{
+    if NET_LENGTH_LIMIT < text.len() {
+        return Head::HeadRefused { number: 1, line: 0 };
+    }
+    let Line::Spelt { numbers, next } = line_at(text, 0, b"root=", 2) else {
+        return Head::HeadRefused { number: 2, line: 1 };
+    };
+    let x = numbers.first;
+    let y = numbers.second;
+    if !is_around(x, POSITION_LIMIT) {
+        return Head::HeadRefused { number: 3, line: 1 };
+    }
+    if !is_around(y, POSITION_LIMIT) {
+        return Head::HeadRefused { number: 3, line: 1 };
+    }
+    let root = Point {
+        x: x.value(),
+        y: y.value(),
+    };
+    read_branch(text, next, root)
+}
+
+// Line 2 and those after it.
+fn read_branch(text: &[u8], at: usize, root: Point) -> Head
+    requires { ⌜ at ≤ length (now text) ⌝ }
+    ensures { λ r. ⌜ Heads (fromBranch root (drop at (now (text .entry)))) (now (text .entry)) r ⌝ }
+{
+    let Line::Spelt { numbers, next } = line_at(text, at, b"branch=", 1) else {
+        return Head::HeadRefused { number: 2, line: 2 };
+    };
+    let number = numbers.first;
+    if !is_up_to(number, BRANCH_LIMIT) {
+        return Head::HeadRefused { number: 3, line: 2 };
+    }
+    let branch = Time::of(number.value());
+    read_wire(text, next, root, branch)
+}
+
+// Line 3 and those after it.
+fn read_wire(text: &[u8], at: usize, root: Point, branch: Time) -> Head
+    requires { ⌜ at ≤ length (now text) ⌝ }
+    ensures { λ r. ⌜ Heads (fromWire root (up (branch .0)) (drop at (now (text .entry)))) (now (text .entry)) r ⌝ }
+{
+    let Line::Spelt { numbers, next } = line_at(text, at, b"wire=", 1) else {
+        return Head::HeadRefused { number: 2, line: 3 };
+    };
+    let number = numbers.first;
+    if !is_up_to(number, WIRE_FACTOR_LIMIT) {
+        return Head::HeadRefused { number: 3, line: 3 };
+    }
+    let wire = WireFactor::of(number.mag);
+    read_need(text, next, root, branch, wire)
+}
+
+// Line 4 and those after it.
+fn read_need(text: &[u8], at: usize, root: Point, branch: Time, wire: WireFactor) -> Head
+    requires { ⌜ at ≤ length (now text) ⌝ }
+    ensures { λ r. ⌜ Heads (fromNeed root (up (branch .0)) (wire .0) (drop at (now (text .entry)))) (now (text .entry)) r ⌝ }
+{
+    let Line::Spelt { numbers, next } = line_at(text, at, b"need=", 1) else {
+        return Head::HeadRefused { number: 2, line: 4 };
+    };
+    let number = numbers.first;
+    if !is_around(number, NEED_LIMIT) {
+        return Head::HeadRefused { number: 3, line: 4 };
+    }
+    let need = Time::of(number.value());
+    read_count(text, next, root, Header { branch, wire, need })
+}
+
+// Line 5.
+fn read_count(text: &[u8], at: usize, root: Point, header: Header) -> Head
+    requires { ⌜ at ≤ length (now text) ⌝ }
+    ensures { λ r. ⌜ Heads (fromCount root (up (header .branch .0)) (header .wire .0) (header .need .0) (drop at (now (text .entry)))) (now (text .entry)) r ⌝ }
+{
+    let Line::Spelt { numbers, next } = line_at(text, at, b"sinks=", 1) else {
+        return Head::HeadRefused { number: 2, line: 5 };
+    };
+    let number = numbers.first;
+    if !is_up_to(number, SINK_LIMIT) {
+        return Head::HeadRefused { number: 3, line: 5 };
+    }
+    let n = number.mag as usize;
+    Head::HeadRead {
+        header,
+        root,
+        n,
+        next,
+    }
+}
+
+// The line of sink s, into the place s of the arrays.
+fn read_sink(
+    text: &[u8],
+    at: usize,
+    s: usize,
+    xs: &mut [i64],
+    ys: &mut [i64],
+    required: &mut [i64],
+) -> SinkLine
+    requires { ⌜ (at ≤ length (now text)) × (s < length (now xs)) × (s < length (now ys)) × (s < length (now required)) ⌝ }
+    ensures { λ r. ⌜ SinkSays (now (text .entry)) at s (now (xs .entry)) (now (ys .entry)) (now (required .entry)) r (now (xs .exit)) (now (ys .exit)) (now (required .exit)) ⌝ }
+{
+    let Line::Spelt { numbers, next } = line_at(text, at, b"sink=", 3) else {
+        return SinkLine::SinkRefused { number: 2 };
+    };
+    let x = numbers.first;
+    let y = numbers.second;
+    let arrival = numbers.third;
+    if !is_around(x, POSITION_LIMIT) {
+        return SinkLine::SinkRefused { number: 3 };
+    }
+    if !is_around(y, POSITION_LIMIT) {
+        return SinkLine::SinkRefused { number: 3 };
+    }
+    if !is_around(arrival, REQUIRED_LIMIT) {
+        return SinkLine::SinkRefused { number: 3 };
+    }
+    xs[s] = x.value();
+    ys[s] = y.value();
+    required[s] = arrival.value();
+    SinkLine::SinkRead { next }
+}
+
+// The lines of the n sinks, and no bytes after them.
+fn read_sinks(
+    text: &[u8],
+    start: usize,
+    header: Header,
+    n: usize,
+    xs: &mut [i64],
+    ys: &mut [i64],
+    required: &mut [i64],
+) -> NetRead
+    requires { ⌜ (start ≤ length (now text)) × (n ≤ 512) × (n < length (now xs)) × (n < length (now ys)) × (n < length (now required)) ⌝ }
+    ensures { λ r. ⌜ fromSinks header (pointAt (now (xs .entry)) (now (ys .entry)) 0) n (drop start (now (text .entry))) ≡ netOutcome r (now (xs .exit)) (now (ys .exit)) (now (required .exit)) ⌝ }
+{
+    let mut at = start;
+    let mut done = 0;
+    while done < n {
+        match read_sink(text, at, done + 1, xs, ys, required) {
+            SinkLine::SinkRead { next } => {
+                at = next;
+            }
+            SinkLine::SinkRefused { number } => {
+                return NetRead::NetRefused {
+                    number,
+                    line: done + 6,
+                };
+            }
+        }
+        done += 1;
+    }
+    if at < text.len() {
+        return NetRead::NetRefused {
+            number: 4,
+            line: n + 6,
+        };
+    }
+    NetRead::Net { header, n }
+}
+
+// A net text. The root and the sinks go to the places 0 to n of `xs` and `ys`, the required arrivals to those of `required`.
+pub fn read_net(text: &[u8], xs: &mut [i64], ys: &mut [i64], required: &mut [i64]) -> NetRead
+    requires { ⌜ (512 < length (now xs)) × (512 < length (now ys)) × (512 < length (now required)) ⌝ }
+    ensures { λ r. ⌜ readNet (now (text .entry)) ≡ netOutcome r (now (xs .exit)) (now (ys .exit)) (now (required .exit)) ⌝ }
+{
+    match read_head(text) {
+        Head::HeadRead {
+            header,
+            root,
+            n,
+            next,
+        } => {
+            let x = root.x;
+            let y = root.y;
+            xs[0] = x;
+            ys[0] = y;
+            read_sinks(text, next, header, n, xs, ys, required)
+        }
+        Head::HeadRefused { number, line } => NetRead::NetRefused { number, line },
+    }
+}
