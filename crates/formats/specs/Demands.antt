@@ -12,8 +12,7 @@ use Rattle.tree.specs.Measures.{worstSlack, wireLength}
 use Rattle.tree.specs.Kraft.{IsKraftMaximum}
 use Rattle.tree.specs.Settling.{plan}
 use Rattle.formats.specs.NetText.{InFormat}
-use Rattle.formats.specs.ListingText.{Listing, readListing}
-use Rattle.formats.specs.Reading.{value}
+use Rattle.formats.specs.ListingText.{Listing, ListingInFormat}
 use Rattle.formats.specs.Refusals.{PlanRow, JudgeRow}
 use Rattle.formats.specs.Answers.{planOf, planOutput, planListing, judgeOf}
 
@@ -30,11 +29,15 @@ pub record Demand1 (net listing out : List ℕ) : Type 0 where
   pub beyond : drop (planOf net (length out) .bytes) (planOutput net out) ≡ drop (planOf net (length out) .bytes) out
   pub same-length : length (planOutput net out) ≡ length out
 
+-- the listing gives a legal tree, and its stated slack and wire are that tree's
+abbrev pub LegalAndTrue : Net → Listing → Type 0
+LegalAndTrue N G = LegalTree N (G .tree) × (G .slack ≡ worstSlack N (G .tree)) × (G .wire ≡ wireLength N (G .tree))
+
 -- 2. "Judge accepts a listing exactly when it is legal for the net and its stated slack and wire are true; every written plan is."
--- For a net in the format, and a text that is read as the listing G
-pub record Demand2 (net : List ℕ) (N : Net) (listing : List ℕ) (G : Listing) : Type 0 where
-  pub accepted : (judgeOf net listing .number ≡ 0) ↔ (LegalTree N (G .tree) × (G .slack ≡ worstSlack N (G .tree)) × (G .wire ≡ wireLength N (G .tree)))
-  pub measured : judgeOf net listing .number ≡ 0 → (judgeOf net listing .slack ≡ worstSlack N (G .tree)) × (judgeOf net listing .wire ≡ wireLength N (G .tree))
+-- For a net in the format, and any text as the listing
+pub record Demand2 (net : List ℕ) (N : Net) (listing : List ℕ) : Type 0 where
+  pub accepted : (judgeOf net listing .number ≡ 0) ↔ ((G : Listing) × (ListingInFormat (size N) listing G × LegalAndTrue N G))
+  pub measured : (G : Listing) → ListingInFormat (size N) listing G → judgeOf net listing .number ≡ 0 → (judgeOf net listing .slack ≡ worstSlack N (G .tree)) × (judgeOf net listing .wire ≡ wireLength N (G .tree))
 
 -- 3. For every net in the format, s being its Kraft maximum
 pub record Demand3 (net : List ℕ) (N : Net) (s : ℤ) : Type 0 where
@@ -56,5 +59,5 @@ pub record Demand3 (net : List ℕ) (N : Net) (s : ℤ) : Type 0 where
 
 pub record Demands : Type 0 where
   pub first : (net listing out : List ℕ) → Demand1 net listing out
-  pub second : (net : List ℕ) (N : Net) → InFormat net N → (listing : List ℕ) (G : Listing) → readListing (size N) listing ≡ value G → Demand2 net N listing G
+  pub second : (net : List ℕ) (N : Net) → InFormat net N → (listing : List ℕ) → Demand2 net N listing
   pub third : (net : List ℕ) (N : Net) → InFormat net N → (s : ℤ) → IsKraftMaximum (N .branch) (ownSlacks N) s → Demand3 net N s

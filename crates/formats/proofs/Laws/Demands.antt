@@ -25,9 +25,9 @@ use Rattle.formats.specs.NetText.{readNet, InFormat}
 use Rattle.formats.specs.ListingText.{Listing, readListing, ListingInFormat, ListingRefusal}
 use Rattle.formats.specs.Refusals.{PlanRow, JudgeRow}
 use Rattle.formats.specs.Answers.{PlanFigures, JudgeFigures, planRefusal, planOf, planOutput, planListing, planNet, planBytes, planRead, planReadBytes, overwritten, judgeRefusal, judgeFiguresOf, judgeReached, judgeCounted, judgeTree, judgeListing, judgeNet, judgeOf}
-use Rattle.formats.specs.Demands.{Demand1, Demand2, Demand3, Demands}
+use Rattle.formats.specs.Demands.{LegalAndTrue, Demand1, Demand2, Demand3, Demands}
 use Rattle.formats.proofs.Laws.NetTexts.{net-complete, net-sound, net-refused}
-use Rattle.formats.proofs.Laws.ListingTexts.{listing-sound, listing-complete, listing-refused}
+use Rattle.formats.proofs.Laws.ListingTexts.{listing-sound, listing-complete, listing-one, listing-refused}
 use Rattle.formats.proofs.Laws.Answers.{Ends, unreachable, short, written, ends, overwritten-beyond, overwritten-length, accepted, judgedBy, figures-true, figures-only, read-shape, judge-legal, judge-accepts}
 use Rattle.formats.proofs.Laws.PlanListing.{planned, planned-legal, plan-listing}
 
@@ -109,35 +109,18 @@ demand-1 net listing out =
 
 -- ---- the second demand
 
--- judge on a net in the format and a text that is read as a listing
-judge-is : (net : List ℕ) (N : Net) → InFormat net N → (listing : List ℕ) (G : Listing) → readListing (size N) listing ≡ value G → judgeOf net listing ≡ judgeTree N G
-unfolding judgeOf
-judge-is net N F listing G r = ap (λ o. judgeNet o listing) (net-complete net N F) ∙ ap (judgeListing N) r
-
 module _ (N : Net) (listing : List ℕ) (G : Listing) (F : ListingInFormat (size N) listing G) where
   -- a legal tree with true figures is accepted
   judge-true : LegalTree N (G .tree) → G .slack ≡ worstSlack N (G .tree) → G .wire ≡ wireLength N (G .tree) → judgeTree N G ≡ accepted N G
   judge-true L e f = judge-legal N G (L .shape) (read-shape N G F) ∙ figures-true N G e f
 
   -- what is accepted is one
-  true-judge : judgeTree N G .number ≡ 0 → (LegalTree N (G .tree) × (G .slack ≡ worstSlack N (G .tree)) × (G .wire ≡ wireLength N (G .tree))) × (judgeTree N G ≡ accepted N G)
+  true-judge : judgeTree N G .number ≡ 0 → LegalAndTrue N G × (judgeTree N G ≡ accepted N G)
   true-judge z =
       let h = judge-accepts N G z in
       let k = figures-only N G (h .2) in
       let L : LegalTree N (G .tree) = record { shape = legal-if (size N) (G .tree .parents) (read-shape N G F) (h .0) (h .1); placed = F .in-range .points-all } in
       ((L, k .0, k .1), judge-true L (k .0) (k .1))
-
-demand-2 : (net : List ℕ) (N : Net) → InFormat net N → (listing : List ℕ) (G : Listing) → readListing (size N) listing ≡ value G → Demand2 net N listing G
-demand-2 net N F listing G r =
-    let e : judgeOf net listing ≡ judgeTree N G = judge-is net N F listing G r in
-    let f : ListingInFormat (size N) listing G = listing-sound (size N) listing G r in
-    let only : judgeOf net listing .number ≡ 0 → (LegalTree N (G .tree) × (G .slack ≡ worstSlack N (G .tree)) × (G .wire ≡ wireLength N (G .tree))) × (judgeTree N G ≡ accepted N G) = λ z. true-judge N listing G f (sym (ap (λ j. j .number) e) ∙ z) in
-    record {
-      accepted = ((λ z. only z .0), λ h. ap (λ j. j .number) (e ∙ judge-true N listing G f (h .0) (h .1) (h .2)));
-      measured = λ z. (ap (λ j. j .slack) (e ∙ only z .1), ap (λ j. j .wire) (e ∙ only z .1));
-    }
-
--- ---- the third demand
 
 -- a refusal has a number
 no-zero : (n e l : ℕ) → ListingRefusal n e l → e ≢ 0
@@ -147,6 +130,41 @@ no-zero n e l (ListingRefusal.out-of-range p q) z = omega arith
 no-zero n e l ListingRefusal.bytes-follow z = omega arith
 no-zero n e l ListingRefusal.other-count z = omega arith
 no-zero n e l (ListingRefusal.parent-sink p q) z = omega arith
+
+module _ (net : List ℕ) (N : Net) (F : InFormat net N) (listing : List ℕ) where
+  -- judge, once the net is read
+  to-listing : judgeOf net listing ≡ judgeListing N (readListing (size N) listing)
+  unfolding judgeOf
+  to-listing = ap (λ o. judgeNet o listing) (net-complete net N F)
+
+  -- what an accepted text is
+  read-judge : judgeOf net listing .number ≡ 0 → (G : Listing) × (ListingInFormat (size N) listing G × LegalAndTrue N G × (judgeOf net listing ≡ accepted N G))
+  read-judge z = go (readListing (size N) listing) refl
+    where
+      go : (o : Outcome Listing) → readListing (size N) listing ≡ o → (G : Listing) × (ListingInFormat (size N) listing G × LegalAndTrue N G × (judgeOf net listing ≡ accepted N G))
+      go (value G) r =
+          let e : judgeOf net listing ≡ judgeTree N G = to-listing ∙ ap (judgeListing N) r in
+          let f : ListingInFormat (size N) listing G = listing-sound (size N) listing G r in
+          let t : LegalAndTrue N G × (judgeTree N G ≡ accepted N G) = true-judge N listing G f (sym (ap (λ j. j .number) e) ∙ z) in
+          (G, (f, t .0, e ∙ t .1))
+      go (refused n l) r = absurd (no-zero (size N) n l (listing-refused (size N) n l listing (F .in-range .sinks .0) r) (sym (ap (λ j. j .number) (to-listing ∙ ap (judgeListing N) r)) ∙ z))
+
+  -- and what is accepted
+  judge-read : (G : Listing) → ListingInFormat (size N) listing G → LegalAndTrue N G → judgeOf net listing ≡ accepted N G
+  judge-read G f t = to-listing ∙ ap (judgeListing N) (listing-complete (size N) listing G f) ∙ judge-true N listing G f (t .0) (t .1) (t .2)
+
+  demand-2 : Demand2 net N listing
+  demand-2 = record {
+    accepted = ((λ z. let h = read-judge z in (h .0, (h .1 .0, h .1 .1))), λ h. ap (λ j. j .number) (judge-read (h .0) (h .1 .0) (h .1 .1)));
+    measured = λ G f z. measured G f (read-judge z);
+  }
+    where
+      measured : (G : Listing) → ListingInFormat (size N) listing G → (H : Listing) × (ListingInFormat (size N) listing H × LegalAndTrue N H × (judgeOf net listing ≡ accepted N H)) → (judgeOf net listing .slack ≡ worstSlack N (G .tree)) × (judgeOf net listing .wire ≡ wireLength N (G .tree))
+      measured G f h =
+          let e : h .0 ≡ G = listing-one (size N) listing (h .0) G (h .1 .0) f in
+          (ap (λ j. j .slack) (h .1 .2) ∙ ap (λ H. worstSlack N (H .tree)) e, ap (λ j. j .wire) (h .1 .2) ∙ ap (λ H. wireLength N (H .tree)) e)
+
+-- ---- the third demand
 
 module _ (net : List ℕ) (N : Net) (F : InFormat net N) where
   T : Theorem1 N
@@ -163,27 +181,13 @@ module _ (net : List ℕ) (N : Net) (F : InFormat net N) where
   number-is : (room : ℕ) → planOf net room .number ≡ planNet N room .number
   number-is room = ap (λ f. f .number) (plan-is room)
 
-  -- judge, once the net is read
-  to-listing : (listing : List ℕ) → judgeOf net listing ≡ judgeListing N (readListing (size N) listing)
-  unfolding judgeOf
-  to-listing listing = ap (λ o. judgeNet o listing) (net-complete net N F)
-
   -- an accepted listing gives the Kraft maximum
   best-of : (listing : List ℕ) → judgeOf net listing .number ≡ 0 → judgeOf net listing .best ≡ kraftMaximum (N .branch) (ownSlacks N)
-  best-of listing z = go (readListing (size N) listing) refl
-    where
-      go : (o : Outcome Listing) → readListing (size N) listing ≡ o → judgeOf net listing .best ≡ kraftMaximum (N .branch) (ownSlacks N)
-      go (value G) r =
-          let e : judgeOf net listing ≡ judgeTree N G = judge-is net N F listing G r in
-          ap (λ j. j .best) (e ∙ true-judge N listing G (listing-sound (size N) listing G r) (sym (ap (λ j. j .number) e) ∙ z) .1)
-      go (refused n l) r = absurd (no-zero (size N) n l (listing-refused (size N) n l listing (F .in-range .sinks .0) r) (sym (ap (λ j. j .number) (to-listing listing ∙ ap (judgeListing N) r)) ∙ z))
+  best-of listing z = ap (λ j. j .best) (read-judge net N F listing z .1 .2)
 
   -- plan's own listing, judged
   own : judgeOf net (planListing N) ≡ accepted N (planned N)
-  own =
-      let f : ListingInFormat (size N) (planListing N) (planned N) = plan-listing N (F .in-range) in
-      judge-is net N F (planListing N) (planned N) (listing-complete (size N) (planListing N) (planned N) f)
-      ∙ judge-true N (planListing N) (planned N) f (planned-legal N (F .in-range)) refl refl
+  own = judge-read net N F (planListing N) (planned N) (plan-listing N (F .in-range)) (planned-legal N (F .in-range), refl, refl)
 
   module _ (s : ℤ) (K : IsKraftMaximum (N .branch) (ownSlacks N) s) where
     is-best : worstSlack N (plan N) ≡ s
