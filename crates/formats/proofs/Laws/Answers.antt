@@ -53,10 +53,6 @@ ends N room = go (ltZ (worstSlack N (plan N)) (N .need)) refl (ltb room (length 
     go false e true f = short (omega (arith, whole)) (ltb-true room (length (planListing N)) f) (ap₂ (figuresBy N) e f) (ap₂ (bytesBy N) e f)
     go false e false f = written (omega (arith, whole)) (ltb-false room (length (planListing N)) f) (ap₂ (figuresBy N) e f) (ap₂ (bytesBy N) e f)
 
--- bytes in front of the output, and the output after them
-pub overwritten-none : (out : List ℕ) → overwritten [] out ≡ out
-overwritten-none out = refl
-
 pub overwritten-beyond : (w out : List ℕ) → drop (length w) (overwritten w out) ≡ drop (length w) out
 overwritten-beyond w out = drop-at w (drop (length w) out) (length w) refl
 

@@ -15,15 +15,6 @@ use borrow.Author.Tests.{lt-ltb, le-ltb, le-leb, ltb-true, ltb-false, eqb-true, 
 use Rattle.formats.specs.Decimal.{digits, showNat, show, isDigit, lead, value, Field, spelt, misspelt, natural, signing, field, signed, isNegative}
 use Rattle.formats.proofs.Laws.Digits.{digit-range, lead-nil, lead-yes, lead-no, value-nil, value-cons}
 
--- the definitions at two numbers
-show-at : show (negsuc 1000000000000) ≡ 45 ∷ 49 ∷ 48 ∷ 48 ∷ 48 ∷ 48 ∷ 48 ∷ 48 ∷ 48 ∷ 48 ∷ 48 ∷ 48 ∷ 48 ∷ 49 ∷ []
-unfolding show showNat digits
-show-at = refl
-
-field-at : field (45 ∷ 49 ∷ 50 ∷ 44 ∷ 49 ∷ []) ≡ spelt true 12 3
-unfolding field natural lead value
-field-at = refl
-
 pub lt-or-le : (a b : ℕ) → (a < b) ⊎ (b ≤ a)
 lt-or-le a b = go (ltb a b) refl
   where
@@ -213,12 +204,6 @@ field-sound s neg v k e =
     let f : Found s (spelt neg v k) = rw e at (field-found s) in
     (f .0, f .1)
 
--- `-0` is never found, so the sign can be read off the number
-pub field-sign : (s : List ℕ) (neg : Bool) (v k : ℕ) → field s ≡ spelt neg v k → isNegative (signed neg v) ≡ neg
-field-sign s neg v k e =
-    let f : Found s (spelt neg v k) = rw e at (field-found s) in
-    f .2
-
 -- ---- what is shown is found
 
 lead-stop : (r : List ℕ) → isDigit (getD r 0 0) ≡ false → lead r ≡ []
@@ -272,21 +257,6 @@ pub signed-abs : (z : ℤ) → signed (isNegative z) (natAbs z) ≡ z
 signed-abs (pos n) = refl
 signed-abs (negsuc n) = refl
 
-pub abs-signed : (neg : Bool) (v : ℕ) → natAbs (signed neg v) ≡ v
-abs-signed false v = refl
-abs-signed true zero = refl
-abs-signed true (suc v) = refl
-
--- no spelling is that of two numbers
-pub show-one : (x y : ℤ) → show x ≡ show y → x ≡ y
-show-one x y e =
-    let a : field (show x ++ []) ≡ spelt (isNegative x) (natAbs x) (length (show x)) = field-complete x [] refl in
-    let b : field (show y ++ []) ≡ spelt (isNegative y) (natAbs y) (length (show y)) = field-complete y [] refl in
-    let c : spelt (isNegative x) (natAbs x) (length (show x)) ≡ spelt (isNegative y) (natAbs y) (length (show y)) = sym a ∙ ap (λ (l : List ℕ). field (l ++ [])) e ∙ b in
-    let m : isNegative x ≡ isNegative y = cc in
-    let n : natAbs x ≡ natAbs y = cc in
-    sym (signed-abs x) ∙ rw (m, n) (signed-abs y)
-
 pub showNat-large : (n : ℕ) → 10 ≤ n → showNat n ≡ showNat (n / 10) ++ ((48 + n % 10) ∷ [])
 showNat-large n h = ap showNat (sym (div-add-mod' n 10)) ∙ showNat-snoc (n / 10) (n % 10) (omega arith) (omega arith)
 
@@ -317,8 +287,3 @@ pub show-length : (z : ℤ) (k : ℕ) → natAbs z < 10 ^ k → 1 ≤ k → leng
 unfolding show
 show-length (pos n) k h p = omega (arith, showNat-length n k h p)
 show-length (negsuc n) k h p = omega (arith, showNat-length (suc n) k h p)
-
-pub show-some : (z : ℤ) → 1 ≤ length (show z)
-unfolding show
-show-some (pos n) = length-showNat n
-show-some (negsuc n) = omega arith

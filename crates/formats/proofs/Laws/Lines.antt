@@ -1,7 +1,7 @@
 -- Laws of a line. Soundness: a row or a line that is read stands there as its text, and counts that many bytes. Completeness: every text of a row or a line is
 -- read as its numbers, whatever follows. So a text begins with at most one line of a key and a count.
 use Prim.Native.Nat.{ℕ, zero, suc, _+_, _*_, _^_, _<_, _≤_}
-use mathlib.Core.Path.{_≡_, refl, ap, sym, _∙_}
+use mathlib.Core.Path.{_≡_, refl, ap, _∙_}
 use mathlib.Core.Logic.{⊎-elim}
 use mathlib.Core.Bool.{Bool, true, false, false≢true}
 use mathlib.Core.List.{List, [], _∷_, _++_, append-assoc}
@@ -63,9 +63,6 @@ stopped stop s p (spelt neg v k) f = go (eqb (getD s k 0) stop) refl
 numberThen-right : (stop : ℕ) (s : List ℕ) → 0 < stop → Stopped stop s (numberThen stop s)
 unfolding numberThen
 numberThen-right stop s p = stopped stop s p (field s) refl
-
-pub numberThen-sound : (stop : ℕ) (s : List ℕ) (neg : Bool) (v k : ℕ) → 0 < stop → numberThen stop s ≡ spelt neg v k → (k ≡ suc (length (show (signed neg v)))) × (s ≡ show (signed neg v) ++ (stop ∷ drop k s))
-numberThen-sound stop s neg v k p e = rw e at (numberThen-right stop s p)
 
 pub numberThen-complete : (stop : ℕ) (z : ℤ) (r : List ℕ) → isDigit stop ≡ false → numberThen stop (show z ++ (stop ∷ r)) ≡ spelt (isNegative z) (natAbs z) (suc (length (show z)))
 unfolding numberThen
@@ -147,16 +144,6 @@ unfolding lineIn
 line-complete key zs r h =
     rw (lineIn, append-assoc, begins-complete key (rowText zs ++ r), drop-append-seam, row-complete zs r h, length-append)
 
--- a text begins with at most one line of a key and a count
-pub line-one : (key : List ℕ) (zs ys : List ℤ) (r t : List ℕ) → 1 ≤ length zs → length zs ≡ length ys → lineText key zs ++ r ≡ lineText key ys ++ t → (zs ≡ ys) × (r ≡ t)
-line-one key zs ys r t h n e =
-    let a : lineIn key (length zs) (lineText key zs ++ r) ≡ row zs (length (lineText key zs)) = line-complete key zs r h in
-    let b : lineIn key (length ys) (lineText key ys ++ t) ≡ row ys (length (lineText key ys)) = line-complete key ys t (omega arith) in
-    let c : row zs (length (lineText key zs)) ≡ row ys (length (lineText key ys)) = sym a ∙ rw (n, e) b in
-    let p : zs ≡ ys = cc in
-    let q : lineText key zs ++ r ≡ lineText key zs ++ t = rw (← p) at e in
-    (p, sym (drop-append-seam (lineText key zs) r) ∙ ap (drop (length (lineText key zs))) q ∙ drop-append-seam (lineText key zs) t)
-
 row-some : (zs : List ℤ) → 1 ≤ length (rowText zs)
 row-some [] = omega arith
 row-some (z ∷ []) = simp length-append (omega arith)
@@ -181,6 +168,3 @@ row-length k (z ∷ []) p q h = rw length-append (omega (arith, show-length z k 
 row-length k (z ∷ (y ∷ l)) p q h =
     let more : length (rowText (y ∷ l)) ≤ suc (length l) * (k + 2) = row-length k (y ∷ l) p (omega arith) (h .1) in
     rw length-append (omega (arith, show-length z k (h .0) p))
-
-pub line-length : (k : ℕ) (key : List ℕ) (zs : List ℤ) → 1 ≤ k → 1 ≤ length zs → Below k zs → length (lineText key zs) ≤ length key + length zs * (k + 2)
-line-length k key zs p q h = rw length-append (omega (arith, row-length k zs p q h))

@@ -10,10 +10,9 @@ use native.Mathlib.Omega.{arith}
 use native.Mathlib.Nat.{add-zero}
 use Rattle.formats.specs.Decimal.{show, isDigit, spelt, field, isNegative}
 use Rattle.formats.specs.Bytes.{endByte, comma}
-use Rattle.formats.specs.Line.{lineText, row, lineIn}
-use Rattle.formats.specs.Writing.{over, Puts, Writable, oneThen, twoThen}
-use Rattle.formats.proofs.Laws.Decimal.{field-complete, show-length}
-use Rattle.formats.proofs.Laws.Lines.{line-complete}
+use Rattle.formats.specs.Line.{lineText}
+use Rattle.formats.specs.Writing.{over, Puts, oneThen, twoThen}
+use Rattle.formats.proofs.Laws.Decimal.{field-complete}
 
 module _ (l : List ℕ) (at : ℕ) where
   front : (s : List ℕ) → at ≤ length l → length (take at l ++ s) ≡ at + length s
@@ -86,10 +85,6 @@ two-is a b stop = simp append-assoc
 pub line4-is : (key : List ℕ) (a b c d : ℤ) → lineText key (a ∷ (b ∷ (c ∷ (d ∷ [])))) ≡ (key ++ twoThen a b comma) ++ twoThen c d endByte
 line4-is key a b c d = simp append-assoc
 
--- how many bytes a number takes
-pub writable-length : (z : ℤ) → Writable z → length (show z) ≤ 17
-writable-length z h = show-length z 16 h (omega arith)
-
 -- ---- there and back
 
 -- a number that was put is read, where no digit stands after it
@@ -97,7 +92,3 @@ pub number-back : (l : List ℕ) (at : ℕ) (z : ℤ) → at ≤ length l → is
 number-back l at z h d =
     let e : getD (drop (at + length (show z)) l) 0 0 ≡ getD l (at + length (show z)) 0 = getD-drop (at + length (show z)) l 0 0 ∙ ap (λ (i : ℕ). getD l i 0) (add-zero (at + length (show z))) in
     rw (drop-over l at (show z) h) (field-complete z (drop (at + length (show z)) l) (ap isDigit e ∙ d))
-
--- a line that was put is read, whatever stands after it
-pub line-back : (l : List ℕ) (at : ℕ) (key : List ℕ) (zs : List ℤ) → at ≤ length l → 1 ≤ length zs → lineIn key (length zs) (drop at (over l at (lineText key zs))) ≡ row zs (length (lineText key zs))
-line-back l at key zs h p = rw (drop-over l at (lineText key zs) h) (line-complete key zs (drop (at + length (lineText key zs)) l) p)
