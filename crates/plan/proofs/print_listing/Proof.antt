@@ -1,8 +1,8 @@
 use native.Mathlib.Omega.{arith}
 use borrow.Author.Needs.{needs}
 use lib.ListN.{length-take}
-use Rattle.console.proofs.print_listing.Statement.{statement}
-use Rattle.console.proofs.print_listing.Tie as tie
+use Rattle.plan.proofs.print_listing.Statement.{statement}
+use Rattle.plan.proofs.print_listing.Tie as tie
 
 returns : tie.Need-returns
 returns c = search needs

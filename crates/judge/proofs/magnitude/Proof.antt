@@ -2,8 +2,8 @@ use native.Mathlib.Omega.{arith}
 use borrow.Author.Needs.{needs}
 use lib.IntN.{pos, _+ℤ_}
 use Rattle.quantities.specs.Linear.{whole, +is, -is, natAbs-is, sfits-up, sfits-dn, back, back-abs, rd}
-use Rattle.console.proofs.magnitude.Statement.{statement}
-use Rattle.console.proofs.magnitude.Tie as tie
+use Rattle.judge.proofs.magnitude.Statement.{statement}
+use Rattle.judge.proofs.magnitude.Tie as tie
 
 add-below : tie.Need-add-below
 add-below c =
