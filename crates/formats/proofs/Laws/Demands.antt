@@ -1,8 +1,8 @@
 -- The three demands, for all bytes, outputs and nets in the format. Assumes nothing.
-use Prim.Native.Nat.{ℕ, _≤_, _<_}
+use Prim.Native.Nat.{ℕ, zero, suc, _+_, _-_, _≤_, _<_}
 use mathlib.Core.Path.{_≡_, refl, sym, ap, _∙_, subst}
-use mathlib.Core.Bool.{Bool, true, false, _&&_}
-use mathlib.Core.Logic.{_≢_, _↔_}
+use mathlib.Core.Bool.{Bool, true, false, not, _&&_}
+use mathlib.Core.Logic.{_≢_, _↔_, _⊎_, inl, inr}
 use mathlib.Core.List.{List, [], _++_}
 use mathlib.Core.Option.{Option, none, some}
 use native.Mathlib.Omega.{arith}
@@ -16,9 +16,10 @@ use Rattle.tree.specs.Tree.{Tree, LegalTree}
 use Rattle.tree.specs.Measures.{worstSlack, wireLength}
 use Rattle.tree.specs.Kraft.{IsKraftMaximum, kraftMaximum}
 use Rattle.tree.specs.Settling.{plan}
-use Rattle.tree.specs.Defects.{wrongChildren, unreached}
+use Rattle.tree.specs.Lists.{count}
+use Rattle.tree.specs.Defects.{wrongChildren, unreached, dueChildren}
 use Rattle.tree.specs.Theorem1.{Theorem1}
-use Rattle.tree.proofs.Laws.Defects.{legal-if}
+use Rattle.tree.proofs.Laws.Defects.{Lowest, legal-if, unreached-lowest, wrong-lowest}
 use Rattle.tree.proofs.Laws.Stated.{theorem-1}
 use Rattle.formats.specs.Reading.{Outcome, value, refused}
 use Rattle.formats.specs.NetText.{readNet, InFormat}
@@ -81,16 +82,24 @@ module _ (N : Net) (G : Listing) where
   unfolding judgedBy
   figures-judge = by-judge (leZ (G .slack) (worstSlack N (G .tree)) && leZ (worstSlack N (G .tree)) (G .slack)) (eqb (G .wire) (wireLength N (G .tree)))
 
-  reached-judge : (o : Option ℕ) → JudgeSound (judgeReached N G o)
-  reached-judge (some v) = refusal-judge 10 2 _ (JudgeRow.not-reached _)
-  reached-judge none = figures-judge
+  reached-judge : (o : Option ℕ) → unreached (size N) (G .tree .parents) ≡ o → JudgeSound (judgeReached N G o)
+  reached-judge (some zero) e = absurd (omega (arith, unreached-lowest (size N) (G .tree .parents) 0 e .from))
+  reached-judge (some (suc v)) e =
+      let h = unreached-lowest (size N) (G .tree .parents) (suc v) e in
+      refusal-judge 10 2 (suc v + 3) (JudgeRow.not-reached (size N) (suc v) (h .from) (omega (arith, h .below)))
+  reached-judge none e = figures-judge
 
-  counted-judge : (o : Option ℕ) → JudgeSound (judgeCounted N G o)
-  counted-judge (some v) = refusal-judge 9 2 _ (JudgeRow.wrong-children _)
-  counted-judge none = reached-judge (unreached (size N) (G .tree .parents))
+  counted-judge : (o : Option ℕ) → wrongChildren (size N) (G .tree .parents) ≡ o → JudgeSound (judgeCounted N G o)
+  counted-judge (some zero) e = refusal-judge 9 2 0 JudgeRow.root-children
+  counted-judge (some (suc v)) e = go (wrong-lowest (size N) (G .tree .parents) (suc v) e)
+    where
+      go : ((suc v ≡ 0) × (count 0 (G .tree .parents) ≢ 1)) ⊎ ((count 0 (G .tree .parents) ≡ 1) × Lowest (λ v. not (eqb (count v (G .tree .parents)) (dueChildren v))) (suc (size N)) (size N - 1) (suc v)) → JudgeSound (judgeRefusal 9 2 (suc v + 3))
+      go (inl h) = absurd (omega (arith, h .0))
+      go (inr h) = refusal-judge 9 2 (suc v + 3) (JudgeRow.branch-children (size N) (suc v) (h .1 .from) (omega (arith, h .1 .from, h .1 .below)))
+  counted-judge none e = reached-judge (unreached (size N) (G .tree .parents)) refl
 
   tree-judge : JudgeSound (judgeTree N G)
-  tree-judge = counted-judge (wrongChildren (size N) (G .tree .parents))
+  tree-judge = counted-judge (wrongChildren (size N) (G .tree .parents)) refl
 
 listing-judge : (N : Net) → 1 ≤ size N → (listing : List ℕ) (o : Outcome Listing) → readListing (size N) listing ≡ o → JudgeSound (judgeListing N o)
 listing-judge N p listing (value G) r = tree-judge N G
