@@ -1,0 +1,91 @@
+// The library for callers in C and Rust: plan and judge on lent bytes, each figure through a reference of its own.
+ghost use mathlib.Core.Path.{_≡_};
+ghost use lib.ListN.{length};
+ghost use Rattle.formats.specs.Answers.{PlanFigures, JudgeFigures, planOf, planOutput, judgeOf};
+use formats::answers::JudgeAnswer;
+use formats::answers::PlanAnswer;
+use formats::judge::judge;
+use formats::plan::plan;
+
+// Plans a net. The number of the refusal is returned, 0 where nothing is refused.
+#[no_mangle]
+pub extern "C" fn repeater_tree_plan(
+    net: &[u8],
+    out: &mut [u8],
+    text: &mut u8,
+    line: &mut usize,
+    slack: &mut i64,
+    wire: &mut u64,
+    bytes: &mut usize,
+) -> u8
+    ensures figures { λ r. ⌜ (record { number = r; text = now (text .exit); line = now (line .exit); slack = now (slack .exit); wire = now (wire .exit); bytes = now (bytes .exit) }) ≡ planOf (now (net .entry)) (length (now (out .entry))) ⌝ }
+    ensures output { λ r. ⌜ now (out .exit) ≡ planOutput (now (net .entry)) (now (out .entry)) ⌝ }
+{
+    match plan(net, out) {
+        PlanAnswer::Planned {
+            slack: worst,
+            wire: total,
+            bytes: written,
+        } => {
+            *text = 0;
+            *line = 0;
+            *slack = worst.value();
+            *wire = total.value();
+            *bytes = written;
+            0
+        }
+        PlanAnswer::PlanRefused {
+            number,
+            text: which,
+            line: place,
+        } => {
+            *text = which;
+            *line = place;
+            *slack = 0;
+            *wire = 0;
+            *bytes = 0;
+            number
+        }
+    }
+}
+
+// Judges a listing. The number of the refusal is returned, 0 where nothing is refused.
+#[no_mangle]
+pub extern "C" fn repeater_tree_judge(
+    net: &[u8],
+    listing: &[u8],
+    text: &mut u8,
+    line: &mut usize,
+    slack: &mut i64,
+    wire: &mut u64,
+    best: &mut i64,
+) -> u8
+    ensures { λ r. ⌜ (record { number = r; text = now (text .exit); line = now (line .exit); slack = now (slack .exit); wire = now (wire .exit); best = now (best .exit) }) ≡ judgeOf (now (net .entry)) (now (listing .entry)) ⌝ }
+{
+    match judge(net, listing) {
+        JudgeAnswer::Accepted {
+            slack: worst,
+            wire: total,
+            best: maximum,
+        } => {
+            *text = 0;
+            *line = 0;
+            *slack = worst.value();
+            *wire = total.value();
+            *best = maximum.value();
+            0
+        }
+        JudgeAnswer::JudgeRefused {
+            number,
+            text: which,
+            line: place,
+        } => {
+            *text = which;
+            *line = place;
+            *slack = 0;
+            *wire = 0;
+            *best = 0;
+            number
+        }
+    }
+}
