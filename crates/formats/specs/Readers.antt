@@ -18,7 +18,7 @@ use Rattle.formats.specs.declared.read_net.Head.the-variants.{HeadRead, 
 use Rattle.formats.specs.declared.read_net.SinkLine.{SinkLine}
 use Rattle.formats.specs.declared.read_net.SinkLine.the-variants.{SinkRead, SinkRefused}
 use Rattle.formats.specs.declared.read_net.NetRead.{NetRead}
-use Rattle.formats.specs.declared.read_net.NetRead.the-variants.{Net as ReadNet, NetRefused}
+use Rattle.formats.specs.declared.read_net.NetRead.the-variants.{NetHeld, NetRefused}
 use Rattle.formats.specs.declared.read_listing.ListingRead.{ListingRead}
 use Rattle.formats.specs.declared.read_listing.ListingRead.the-variants.{Stated, ListingRefused}
 
@@ -77,10 +77,10 @@ abbrev pub SinkSays : List ℕ → ℕ → ℕ → List ℤ → List ℤ → Lis
 SinkSays s at i xs ys required (SinkRead next) xs′ ys′ required′ = SinkStored s at i xs ys required next xs′ ys′ required′
 SinkSays s at i xs ys required (SinkRefused number) xs′ ys′ required′ = (l : ℕ) (cont : List ℤ → List ℕ → Outcome Net) → due l sinkKey sinkRanges (drop at s) cont ≡ refused number l
 
--- the net that the arrays hold, or the refusal
-abbrev pub netOutcome : NetRead → List ℤ → List ℤ → List ℤ → Outcome Net
-netOutcome (ReadNet h n) xs ys required = value (netOf h n xs ys required)
-netOutcome (NetRefused number line) xs ys required = refused number line
+-- the net of n sinks that the arrays hold under the header h, or the refusal
+abbrev pub netOutcome : Header → ℕ → NetRead → List ℤ → List ℤ → List ℤ → Outcome Net
+netOutcome h n NetHeld xs ys required = value (netOf h n xs ys required)
+netOutcome h n (NetRefused number line) xs ys required = refused number line
 
 -- the listing that the arrays hold, or the refusal
 abbrev pub listingOutcome : ListingRead → ℕ → List ℕ → List ℤ → List ℤ → Outcome Listing

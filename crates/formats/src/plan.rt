@@ -1,23 +1,28 @@
 // Plan: a net in, the listing of its planned tree out.
 ghost use mathlib.Core.Path.{_≡_};
-ghost use Prim.Native.Nat.{_*_, _≤_};
-ghost use lib.ListN.{length};
+ghost use Prim.Native.Nat.{_*_, _≤_, _<_};
+ghost use lib.ListN.{length, drop};
 ghost use Rattle.tree.specs.Arrays.{netOf, treeOf, HoldsNet};
+ghost use Rattle.formats.specs.NetText.{readNet};
+ghost use Rattle.formats.specs.Readers.{fromSinks};
 ghost use Rattle.formats.specs.ListingText.{listingLengthLimit, listingText, ListingInRange};
 ghost use Rattle.formats.specs.Answers.{planFigures, planNet, planBytes, planOf, planOutput, overwritten};
 ghost use Rattle.formats.specs.Emitting.{emitFigures, emitBytes};
 use crate::answers::PlanAnswer;
 use crate::limits::LISTING_LENGTH_LIMIT;
+use crate::read_net::Head;
 use crate::read_net::NetRead;
-use crate::read_net::read_net;
+use crate::read_net::read_head;
+use crate::read_net::read_rest;
 use crate::write::put_bytes;
 use crate::write_listing::write_listing;
 use quantities::length::Length;
+use quantities::point::Point;
 use quantities::time::Time;
 use tree::header::Header;
 
-// The listing of the tree in the arrays, with its slack and wire, goes to the start of `out`, where there is room for all of it.
-fn emit(
+// The listing of the tree in the arrays, with its slack and wire, goes to the start of `out`, where there is room for all of it. It is made apart first.
+fn emit_apart(
     out: &mut [u8],
     slack: Time,
     wire: Length,
@@ -45,35 +50,49 @@ fn emit(
     PlanAnswer::Planned { slack, wire, bytes }
 }
 
-// The plan of a net that stands in the arrays.
+// The same, made in place where `out` has room for every listing of n sinks.
+fn emit(
+    out: &mut [u8],
+    slack: Time,
+    wire: Length,
+    n: usize,
+    parents: &[usize],
+    xs: &[i64],
+    ys: &[i64],
+) -> PlanAnswer
+    requires { ⌜ ListingInRange n (record { slack = slack .0; wire = wire .0; tree = treeOf n (now parents) (now xs) (now ys) }) ⌝ }
+    requires { ⌜ (2 * n ≤ length (now parents)) × (2 * n ≤ length (now xs)) × (2 * n ≤ length (now ys)) ⌝ }
+    requires { ⌜ length (listingText n (record { slack = slack .0; wire = wire .0; tree = treeOf n (now parents) (now xs) (now ys) })) ≤ listingLengthLimit ⌝ }
+    ensures figures { λ r. ⌜ planFigures r ≡ emitFigures n (record { slack = slack .0; wire = wire .0; tree = treeOf n (now (parents .entry)) (now (xs .entry)) (now (ys .entry)) }) (length (now (out .entry))) ⌝ }
+    ensures output { λ r. ⌜ now (out .exit) ≡ overwritten (emitBytes n (record { slack = slack .0; wire = wire .0; tree = treeOf n (now (parents .entry)) (now (xs .entry)) (now (ys .entry)) }) (length (now (out .entry)))) (now (out .entry)) ⌝ }
+{
+    if out.len() < 45 * n + 16 {
+        return emit_apart(out, slack, wire, n, parents, xs, ys);
+    }
+    let bytes = write_listing(out, slack, wire, n, parents, xs, ys);
+    PlanAnswer::Planned { slack, wire, bytes }
+}
+
+// The plan of a net that stands in the arrays. `parents`, `own`, `slacks` and `room` are room to work in.
 fn plan_net(
     header: Header,
     n: usize,
     xs: &mut [i64],
     ys: &mut [i64],
     required: &[i64],
+    parents: &mut [usize],
+    own: &mut [i64],
+    slacks: &mut [i64],
+    room: &mut [usize],
     out: &mut [u8],
 ) -> PlanAnswer
-    requires { ⌜ HoldsNet header n (now xs) (now ys) (now required) × (2 * n ≤ length (now xs)) × (2 * n ≤ length (now ys)) ⌝ }
+    requires { ⌜ HoldsNet header n (now xs) (now ys) (now required) ⌝ }
+    requires { ⌜ (2 * n ≤ length (now xs)) × (2 * n ≤ length (now ys)) × (2 * n ≤ length (now parents)) × (n < length (now own)) × (n < length (now slacks)) × (4 * n ≤ length (now room)) ⌝ }
     ensures figures { λ r. ⌜ planFigures r ≡ planNet (netOf header n (now (xs .entry)) (now (ys .entry)) (now (required .entry))) (length (now (out .entry))) ⌝ }
     ensures output { λ r. ⌜ now (out .exit) ≡ overwritten (planBytes (netOf header n (now (xs .entry)) (now (ys .entry)) (now (required .entry))) (length (now (out .entry)))) (now (out .entry)) ⌝ }
 {
-    let mut parents = [0usize; 1024];
-    let mut own = [0i64; 513];
-    let mut slacks = [0i64; 513];
-    let mut room = [0usize; 2048];
     let need = header.need;
-    let tally = tree::plan::plan(
-        header,
-        n,
-        xs,
-        ys,
-        required,
-        &mut parents,
-        &mut own,
-        &mut slacks,
-        &mut room,
-    );
+    let tally = tree::plan::plan(header, n, xs, ys, required, parents, own, slacks, room);
     let slack = tally.worst;
     let wire = tally.wire;
     if slack.is_less(need) {
@@ -83,7 +102,112 @@ fn plan_net(
             line: 4,
         };
     }
-    emit(out, slack, wire, n, &parents, xs, ys)
+    emit(out, slack, wire, n, parents, xs, ys)
+}
+
+// The plan of a net whose head was read, in arrays with places for its n sinks.
+fn plan_rest(
+    net: &[u8],
+    header: Header,
+    root: Point,
+    n: usize,
+    next: usize,
+    xs: &mut [i64],
+    ys: &mut [i64],
+    required: &mut [i64],
+    parents: &mut [usize],
+    own: &mut [i64],
+    slacks: &mut [i64],
+    room: &mut [usize],
+    out: &mut [u8],
+) -> PlanAnswer
+    requires head { ⌜ (readNet (now net) ≡ fromSinks header root n (drop next (now net))) × (n ≤ 512) × (next ≤ length (now net)) ⌝ }
+    requires room { ⌜ (n < length (now xs)) × (2 * n ≤ length (now xs)) × (n < length (now ys)) × (2 * n ≤ length (now ys)) × (n < length (now required)) × (2 * n ≤ length (now parents)) × (n < length (now own)) × (n < length (now slacks)) × (4 * n ≤ length (now room)) ⌝ }
+    ensures figures { λ r. ⌜ planFigures r ≡ planOf (now (net .entry)) (length (now (out .entry))) ⌝ }
+    ensures output { λ r. ⌜ now (out .exit) ≡ planOutput (now (net .entry)) (now (out .entry)) ⌝ }
+{
+    if let NetRead::NetRefused { number, line } = read_rest(net, root, n, next, xs, ys, required) {
+        return PlanAnswer::PlanRefused {
+            number,
+            text: 1,
+            line,
+        };
+    }
+    plan_net(header, n, xs, ys, required, parents, own, slacks, room, out)
+}
+
+// A net of at most 16 sinks: small arrays, which are soon cleared.
+fn plan_small(
+    net: &[u8],
+    header: Header,
+    root: Point,
+    n: usize,
+    next: usize,
+    out: &mut [u8],
+) -> PlanAnswer
+    requires head { ⌜ (readNet (now net) ≡ fromSinks header root n (drop next (now net))) × (n ≤ 16) × (next ≤ length (now net)) ⌝ }
+    ensures figures { λ r. ⌜ planFigures r ≡ planOf (now (net .entry)) (length (now (out .entry))) ⌝ }
+    ensures output { λ r. ⌜ now (out .exit) ≡ planOutput (now (net .entry)) (now (out .entry)) ⌝ }
+{
+    let mut xs = [0i64; 32];
+    let mut ys = [0i64; 32];
+    let mut required = [0i64; 17];
+    let mut parents = [0usize; 32];
+    let mut own = [0i64; 17];
+    let mut slacks = [0i64; 17];
+    let mut room = [0usize; 64];
+    plan_rest(
+        net,
+        header,
+        root,
+        n,
+        next,
+        &mut xs,
+        &mut ys,
+        &mut required,
+        &mut parents,
+        &mut own,
+        &mut slacks,
+        &mut room,
+        out,
+    )
+}
+
+// A net of any number of sinks.
+fn plan_large(
+    net: &[u8],
+    header: Header,
+    root: Point,
+    n: usize,
+    next: usize,
+    out: &mut [u8],
+) -> PlanAnswer
+    requires head { ⌜ (readNet (now net) ≡ fromSinks header root n (drop next (now net))) × (n ≤ 512) × (next ≤ length (now net)) ⌝ }
+    ensures figures { λ r. ⌜ planFigures r ≡ planOf (now (net .entry)) (length (now (out .entry))) ⌝ }
+    ensures output { λ r. ⌜ now (out .exit) ≡ planOutput (now (net .entry)) (now (out .entry)) ⌝ }
+{
+    let mut xs = [0i64; 1024];
+    let mut ys = [0i64; 1024];
+    let mut required = [0i64; 513];
+    let mut parents = [0usize; 1024];
+    let mut own = [0i64; 513];
+    let mut slacks = [0i64; 513];
+    let mut room = [0usize; 2048];
+    plan_rest(
+        net,
+        header,
+        root,
+        n,
+        next,
+        &mut xs,
+        &mut ys,
+        &mut required,
+        &mut parents,
+        &mut own,
+        &mut slacks,
+        &mut room,
+        out,
+    )
 }
 
 // Any bytes and any output get an answer; a refusal leaves the output as it was.
@@ -91,15 +215,23 @@ pub fn plan(net: &[u8], out: &mut [u8]) -> PlanAnswer
     ensures figures { λ r. ⌜ planFigures r ≡ planOf (now (net .entry)) (length (now (out .entry))) ⌝ }
     ensures output { λ r. ⌜ now (out .exit) ≡ planOutput (now (net .entry)) (now (out .entry)) ⌝ }
 {
-    let mut xs = [0i64; 1024];
-    let mut ys = [0i64; 1024];
-    let mut required = [0i64; 513];
-    match read_net(net, &mut xs, &mut ys, &mut required) {
-        NetRead::NetRefused { number, line } => PlanAnswer::PlanRefused {
+    match read_head(net) {
+        Head::HeadRefused { number, line } => PlanAnswer::PlanRefused {
             number,
             text: 1,
             line,
         },
-        NetRead::Net { header, n } => plan_net(header, n, &mut xs, &mut ys, &required, out),
+        Head::HeadRead {
+            header,
+            root,
+            n,
+            next,
+        } => {
+            if n <= 16 {
+                plan_small(net, header, root, n, next, out)
+            } else {
+                plan_large(net, header, root, n, next, out)
+            }
+        }
     }
 }

@@ -4,6 +4,7 @@ ghost use Prim.Native.Nat.{_≤_, _<_};
 ghost use lib.ListN.{length, drop};
 ghost use Rattle.quantities.specs.Linear.{up};
 ghost use Rattle.tree.specs.Arrays.{pointAt};
+ghost use Rattle.tree.specs.declared.header.Header.{Header};
 ghost use Rattle.formats.specs.NetText.{readNet};
 ghost use Rattle.formats.specs.Readers.{afterHead, HeadWithin, Heads, fromBranch, fromWire, fromNeed, fromCount, fromSinks, SinkSays, netOutcome};
 use crate::limits::BRANCH_LIMIT;
@@ -42,9 +43,9 @@ enum SinkLine {
     SinkRefused { number: u8 },
 }
 
-// The header and the number of sinks of a net that stands in the arrays; or a refusal.
+// Whether the sinks of a net stand in the arrays; or a refusal.
 pub enum NetRead {
-    Net { header: Header, n: usize },
+    NetHeld,
     NetRefused { number: u8, line: usize },
 }
 
@@ -180,14 +181,13 @@ fn read_sink(
 fn read_sinks(
     text: &[u8],
     start: usize,
-    header: Header,
     n: usize,
     xs: &mut [i64],
     ys: &mut [i64],
     required: &mut [i64],
 ) -> NetRead
     requires { ⌜ (start ≤ length (now text)) × (n ≤ 512) × (n < length (now xs)) × (n < length (now ys)) × (n < length (now required)) ⌝ }
-    ensures { λ r. ⌜ fromSinks header (pointAt (now (xs .entry)) (now (ys .entry)) 0) n (drop start (now (text .entry))) ≡ netOutcome r (now (xs .exit)) (now (ys .exit)) (now (required .exit)) ⌝ }
+    ensures { λ r. ⌜ ((h : Header) → fromSinks h (pointAt (now (xs .entry)) (now (ys .entry)) 0) n (drop start (now (text .entry))) ≡ netOutcome h n r (now (xs .exit)) (now (ys .exit)) (now (required .exit))) ⌝ }
 {
     let mut at = start;
     let mut done = 0;
@@ -211,27 +211,25 @@ fn read_sinks(
             line: n + 6,
         };
     }
-    NetRead::Net { header, n }
+    NetRead::NetHeld
 }
 
-// A net text. The root and the sinks go to the places 0 to n of `xs` and `ys`, the required arrivals to those of `required`.
-pub fn read_net(text: &[u8], xs: &mut [i64], ys: &mut [i64], required: &mut [i64]) -> NetRead
-    requires { ⌜ (512 < length (now xs)) × (512 < length (now ys)) × (512 < length (now required)) ⌝ }
-    ensures { λ r. ⌜ readNet (now (text .entry)) ≡ netOutcome r (now (xs .exit)) (now (ys .exit)) (now (required .exit)) ⌝ }
+// The rest of a net text, whose head was read. The root and the sinks go to the places 0 to n of `xs` and `ys`, the required arrivals to those of `required`.
+pub fn read_rest(
+    text: &[u8],
+    root: Point,
+    n: usize,
+    next: usize,
+    xs: &mut [i64],
+    ys: &mut [i64],
+    required: &mut [i64],
+) -> NetRead
+    requires { ⌜ (next ≤ length (now text)) × (n ≤ 512) × (n < length (now xs)) × (n < length (now ys)) × (n < length (now required)) ⌝ }
+    ensures { λ r. ⌜ ((h : Header) → fromSinks h root n (drop next (now (text .entry))) ≡ netOutcome h n r (now (xs .exit)) (now (ys .exit)) (now (required .exit))) ⌝ }
 {
-    match read_head(text) {
-        Head::HeadRead {
-            header,
-            root,
-            n,
-            next,
-        } => {
-            let x = root.x;
-            let y = root.y;
-            xs[0] = x;
-            ys[0] = y;
-            read_sinks(text, next, header, n, xs, ys, required)
-        }
-        Head::HeadRefused { number, line } => NetRead::NetRefused { number, line },
-    }
+    let x = root.x;
+    let y = root.y;
+    xs[0] = x;
+    ys[0] = y;
+    read_sinks(text, next, n, xs, ys, required)
 }

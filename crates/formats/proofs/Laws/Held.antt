@@ -21,14 +21,11 @@ use Rattle.formats.proofs.Laws.NetTexts.{net-sound}
 use Rattle.formats.proofs.Laws.ListingTexts.{listing-sound}
 
 module _ (h : Header) (n : ℕ) (xs ys rs : List ℤ) where
-  pub read-net-holds : (text : List ℕ) → readNet text ≡ value (netOf h n xs ys rs) → sinkLimit < length xs → sinkLimit < length ys → sinkLimit < length rs → HoldsNet h n xs ys rs
-  read-net-holds text e p q r = record { points = record { xs-long = omega (arith, few); ys-long = omega (arith, few); near = near }; required-long = omega (arith, few); in-range = in-range }
+  pub read-net-holds : (text : List ℕ) → readNet text ≡ value (netOf h n xs ys rs) → n < length xs → n < length ys → n < length rs → HoldsNet h n xs ys rs
+  read-net-holds text e p q r = record { points = record { xs-long = p; ys-long = q; near = near }; required-long = r; in-range = in-range }
     where
       in-range : InRange (netOf h n xs ys rs)
       in-range = net-sound text (netOf h n xs ys rs) e .in-range
-
-      few : n ≤ sinkLimit
-      few = omega (arith, in-range .sinks, size-is h n xs ys rs)
 
       near : (v : ℕ) → v < suc n → PointWithin positionLimit (pointAt xs ys v)
       near zero l = in-range .root

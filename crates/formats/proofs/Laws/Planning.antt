@@ -1,6 +1,6 @@
 -- What plan answers from step to step: the planned tree, its listing, the net that was read. Assumes nothing.
 use Prim.Native.Nat.{ℕ, _≤_, _<_}
-use mathlib.Core.Path.{_≡_, refl, sym, _∙_}
+use mathlib.Core.Path.{_≡_, refl, sym, ap, _∙_}
 use mathlib.Core.Bool.{true, false}
 use mathlib.Core.List.{List}
 use native.Mathlib.Nat.{zero-add}
@@ -47,6 +47,16 @@ module _ (N : Net) (n : ℕ) (G : Listing) (sized : size N ≡ n) (made : G ≡ 
 
 -- ---- writing a listing
 
+-- the listing stands at the start of the output, which is then `left`, and has `bytes` bytes
+placed : (n : ℕ) (G : Listing) (out left : List ℕ) (bytes : ℕ) → bytes ≡ length (listingText n G) → length (listingText n G) ≤ length out → left ≡ over out 0 (listingText n G) → (record { number = 0; text = 0; line = 0; slack = G .slack; wire = G .wire; bytes = bytes } ≡ emitFigures n G (length out)) × (left ≡ overwritten (emitBytes n G (length out)) out)
+unfolding over
+placed n G out left bytes ends h e =
+    let t = le-ltb (length out) (length (listingText n G)) h in
+    (rw (emitFigures, t, ends) refl, rw (emitBytes, t, e, zero-add) refl)
+
+pub written-in-place : (n : ℕ) (G : Listing) (out left : List ℕ) (bytes : ℕ) → Puts out 0 (listingText n G) bytes left → length (listingText n G) ≤ length out → (record { number = 0; text = 0; line = 0; slack = G .slack; wire = G .wire; bytes = bytes } ≡ emitFigures n G (length out)) × (left ≡ overwritten (emitBytes n G (length out)) out)
+written-in-place n G out left bytes put h = placed n G out left bytes (omega (arith, put .0)) h (put .1)
+
 -- the listing was put at the start of `blank`, which is then `text`
 module _ (n : ℕ) (G : Listing) (blank text : List ℕ) (bytes : ℕ) (put : Puts blank 0 (listingText n G) bytes text) where
   ends : bytes ≡ length (listingText n G)
@@ -62,10 +72,7 @@ module _ (n : ℕ) (G : Listing) (blank text : List ℕ) (bytes : ℕ) (put : Pu
   no-room out h = let t = lt-ltb (length out) (length (listingText n G)) (omega (arith, ends)) in (rw (emitFigures, t) refl, rw (emitBytes, t) refl)
 
   pub written : (out left : List ℕ) → bytes ≤ length out → left ≡ over out 0 (take bytes text) → (record { number = 0; text = 0; line = 0; slack = G .slack; wire = G .wire; bytes = bytes } ≡ emitFigures n G (length out)) × (left ≡ overwritten (emitBytes n G (length out)) out)
-  unfolding over
-  written out left h e =
-      let t = le-ltb (length out) (length (listingText n G)) (omega (arith, ends)) in
-      (rw (emitFigures, t, ends) refl, rw (emitBytes, t, e, listed, zero-add) refl)
+  written out left h e = placed n G out left bytes ends (omega (arith, ends)) (e ∙ ap (over out 0) listed)
 
 -- ---- the answer, by what was read
 

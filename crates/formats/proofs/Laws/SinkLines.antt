@@ -63,17 +63,17 @@ module _ (xs ys required : List ℤ) (x y a : ℤ) (k i : ℕ) (e : i ≡ suc k)
       ap (map f) u ∙ map-append f (range 1 k) (i ∷ []) ∙ ap₂ _++_ (table-cong f (heldSink xs ys required) 1 k held-other) (ap (λ (v : Sink). v ∷ []) held-same)
 
 -- `done` sinks are read, and the next line starts at `at`
-pub record Sinking (h : Header) (root : Point) (n : ℕ) (s : List ℕ) (start : ℕ) (xs ys required : List ℤ) (at done : ℕ) : Type 0 where
+pub record Sinking (root : Point) (n : ℕ) (s : List ℕ) (start : ℕ) (xs ys required : List ℤ) (at done : ℕ) : Type 0 where
   pub within : at ≤ length s
   pub few : done ≤ n
   pub xs-long : n < length xs
   pub ys-long : n < length ys
   pub required-long : n < length required
   pub root-is : root ≡ pointAt xs ys 0
-  pub reads : fromSinks h root n (drop start s) ≡ restSinks h root n (n - done) (6 + done) (drop at s) (heldSinks xs ys required done)
+  pub reads : (h : Header) → fromSinks h root n (drop start s) ≡ restSinks h root n (n - done) (6 + done) (drop at s) (heldSinks xs ys required done)
 
-module _ (h : Header) (root : Point) (n : ℕ) (s : List ℕ) (start : ℕ) (xs ys required : List ℤ) where
-  pub sinking-start : start ≤ length s → n < length xs → n < length ys → n < length required → root ≡ pointAt xs ys 0 → Sinking h root n s start xs ys required start 0
+module _ (root : Point) (n : ℕ) (s : List ℕ) (start : ℕ) (xs ys required : List ℤ) where
+  pub sinking-start : start ≤ length s → n < length xs → n < length ys → n < length required → root ≡ pointAt xs ys 0 → Sinking root n s start xs ys required start 0
   sinking-start p px py pr r =
       let e : n ≡ n - 0 = omega arith in
       record {
@@ -83,24 +83,24 @@ module _ (h : Header) (root : Point) (n : ℕ) (s : List ℕ) (start : ℕ) (xs 
         ys-long = py;
         required-long = pr;
         root-is = r;
-        reads = ap (λ (k : ℕ). restSinks h root n k 6 (drop start s) []) e;
+        reads = λ h. ap (λ (k : ℕ). restSinks h root n k 6 (drop start s) []) e;
       }
 
-  module _ (at done : ℕ) (g : Sinking h root n s start xs ys required at done) where
-    sinking-due : done < n → fromSinks h root n (drop start s) ≡ due (6 + done) sinkKey sinkRanges (drop at s) (moreSinks h root n done (heldSinks xs ys required done))
-    sinking-due p =
+  module _ (at done : ℕ) (g : Sinking root n s start xs ys required at done) where
+    sinking-due : (h : Header) → done < n → fromSinks h root n (drop start s) ≡ due (6 + done) sinkKey sinkRanges (drop at s) (moreSinks h root n done (heldSinks xs ys required done))
+    sinking-due h p =
         let e : n - done ≡ suc (n - suc done) = omega arith in
-        g .reads
+        g .reads h
         ∙ ap (λ (k : ℕ). restSinks h root n k (6 + done) (drop at s) (heldSinks xs ys required done)) e
         ∙ rest-more h root n (n - suc done) (6 + done) (drop at s) (heldSinks xs ys required done)
 
-    pub sinking-refused : done < n → (k : ℕ) → ((l : ℕ) (cont : List ℤ → List ℕ → Outcome Net) → due l sinkKey sinkRanges (drop at s) cont ≡ refused k l) → fromSinks h root n (drop start s) ≡ refused k (done + 6)
-    sinking-refused p k e = sinking-due p ∙ e (6 + done) _ ∙ ap (refused k) (omega arith)
+    pub sinking-refused : done < n → (k : ℕ) → ((l : ℕ) (cont : List ℤ → List ℕ → Outcome Net) → due l sinkKey sinkRanges (drop at s) cont ≡ refused k l) → (h : Header) → fromSinks h root n (drop start s) ≡ refused k (done + 6)
+    sinking-refused p k e h = sinking-due h p ∙ e (6 + done) _ ∙ ap (refused k) (omega arith)
 
-    pub sinking-more : done < n → (next : ℕ) (xs′ ys′ required′ : List ℤ) → SinkStored s at (done + 1) xs ys required next xs′ ys′ required′ → Sinking h root n s start xs′ ys′ required′ next (done + 1)
-    sinking-more p next xs′ ys′ required′ t = go (t .x) (t .y) (t .a) (t .reads (6 + done) _) (t .xs-is) (t .ys-is) (t .required-is)
+    pub sinking-more : done < n → (next : ℕ) (xs′ ys′ required′ : List ℤ) → SinkStored s at (done + 1) xs ys required next xs′ ys′ required′ → Sinking root n s start xs′ ys′ required′ next (done + 1)
+    sinking-more p next xs′ ys′ required′ t = go (t .x) (t .y) (t .a) (λ h. t .reads (6 + done) _) (t .xs-is) (t .ys-is) (t .required-is)
       where
-        go : (x y a : ℤ) → due (6 + done) sinkKey sinkRanges (drop at s) (moreSinks h root n done (heldSinks xs ys required done)) ≡ moreSinks h root n done (heldSinks xs ys required done) (x ∷ (y ∷ (a ∷ []))) (drop next s) → xs′ ≡ set xs (done + 1) x → ys′ ≡ set ys (done + 1) y → required′ ≡ set required (done + 1) a → Sinking h root n s start xs′ ys′ required′ next (done + 1)
+        go : (x y a : ℤ) → ((h : Header) → due (6 + done) sinkKey sinkRanges (drop at s) (moreSinks h root n done (heldSinks xs ys required done)) ≡ moreSinks h root n done (heldSinks xs ys required done) (x ∷ (y ∷ (a ∷ []))) (drop next s)) → xs′ ≡ set xs (done + 1) x → ys′ ≡ set ys (done + 1) y → required′ ≡ set required (done + 1) a → Sinking root n s start xs′ ys′ required′ next (done + 1)
         go x y a e ex ey er =
             let m = held-more xs ys required x y a done (done + 1) (omega arith) (omega (arith, g .xs-long)) (omega (arith, g .ys-long)) (omega (arith, g .required-long)) in
             let d : 0 ≡ done + 1 → ⊥ = λ w. omega arith in
@@ -113,20 +113,20 @@ module _ (h : Header) (root : Point) (n : ℕ) (s : List ℕ) (start : ℕ) (xs 
               ys-long = rw length-set (g .ys-long);
               required-long = rw length-set (g .required-long);
               root-is = g .root-is ∙ sym (λ j. record { x = getD-set-other xs (done + 1) 0 x (pos 0) d j; y = getD-set-other ys (done + 1) 0 y (pos 0) d j });
-              reads = sinking-due p ∙ e ∙ (λ j. restSinks h root n (e₁ j) (e₂ j) (drop next s) (sym m j));
+              reads = λ h. sinking-due h p ∙ e h ∙ (λ j. restSinks h root n (e₁ j) (e₂ j) (drop next s) (sym m j));
             })
 
-    pub sinking-left : n ≤ done → at < length s → fromSinks h root n (drop start s) ≡ refused 4 (n + 6)
-    sinking-left p q =
+    pub sinking-left : n ≤ done → at < length s → (h : Header) → fromSinks h root n (drop start s) ≡ refused 4 (n + 6)
+    sinking-left p q h =
         let e : n - done ≡ 0 = omega arith in
-        g .reads ∙ rw (e, drop-cons s at 0 q)
+        g .reads h ∙ rw (e, drop-cons s at 0 q)
 
-    pub sinking-end : n ≤ done → length s ≤ at → fromSinks h root n (drop start s) ≡ value (netOf h n xs ys required)
-    sinking-end p q =
+    pub sinking-end : n ≤ done → length s ≤ at → (h : Header) → fromSinks h root n (drop start s) ≡ value (netOf h n xs ys required)
+    sinking-end p q h =
         let e : n - done ≡ 0 = omega arith in
         let d : done ≡ n = omega (arith, g .few) in
         let f : drop at s ≡ [] = drop-of-length-le s q in
-        g .reads ∙ rw (e, f, append-nil, g .root-is, d)
+        g .reads h ∙ rw (e, f, append-nil, g .root-is, d)
 
 -- the root at place 0
 pub root-stored : (p : Point) (xs ys : List ℤ) → 0 < length xs → 0 < length ys → (x y : ℤ) → x ≡ p .x → y ≡ p .y → p ≡ pointAt (set xs 0 x) (set ys 0 y) 0

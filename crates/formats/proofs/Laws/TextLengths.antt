@@ -86,9 +86,10 @@ module _ (n : ℕ) (G : Listing) (h : ListingInRange n G) where
         position (nodePoint n (G .tree .points) k .y) (c .1),
       ))
 
-  pub listing-short : length (listingText n G) ≤ listingLengthLimit
+  -- every listing of n sinks has room in so many bytes
+  pub listing-bound : length (listingText n G) ≤ 45 * n + 16
   unfolding listingText
-  listing-short =
+  listing-bound =
       simp length-append
       (omega (
         arith,
@@ -98,6 +99,9 @@ module _ (n : ℕ) (G : Listing) (h : ListingInRange n G) where
         lines-short (leafText (G .tree .parents)) 14 1 n leaf-short,
         lines-short (nodeText n (G .tree)) 31 (suc n) (n - 1) node-short,
       ))
+
+  pub listing-short : length (listingText n G) ≤ listingLengthLimit
+  listing-short = omega (arith, listing-bound, h .sinks)
 
 -- ---- so what is in range has a text in the format
 

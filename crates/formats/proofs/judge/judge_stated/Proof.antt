@@ -5,7 +5,6 @@ use borrow.Author.Needs.{needs}
 use lib.Signed.{ltZ}
 use Rattle.tree.specs.Net.{Net}
 use Rattle.tree.specs.Arrays.{netOf, treeOf}
-use Rattle.tree.proofs.Laws.PlanArrays.{some-few}
 use Rattle.formats.specs.ListingText.{Listing}
 use Rattle.formats.proofs.Laws.Judging.{slack-less, slack-more, wire-other, accepted}
 use Rattle.formats.proofs.judge.judge_stated.Statement.{statement}
@@ -13,10 +12,10 @@ use Rattle.formats.proofs.judge.judge_stated.Tie as tie
 
 -- the net and the listing that are judged
 abbrev net : tie.After-measure → Net
-net c = let a = c .before .before .args in netOf (a .header) (a .n) (a .xs .now) (a .ys .now) (a .required .now)
+net c = let a = c .before .before .before .before .args in netOf (a .header) (a .n) (a .xs .now) (a .ys .now) (a .required .now)
 
 abbrev listing : tie.After-measure → Listing
-listing c = let a = c .before .before .args in record { slack = a .slack .0; wire = a .wire .0; tree = treeOf (a .n) (a .parents .now) (a .xs .now) (a .ys .now) }
+listing c = let a = c .before .before .before .before .args in record { slack = a .slack .0; wire = a .wire .0; tree = treeOf (a .n) (a .parents .now) (a .xs .now) (a .ys .now) }
 
 -- the stated slack is the measured one
 low : (c : tie.Else2) → ltZ (listing (c .before .before .before .before .before .before) .slack) (c .before .before .before .before .before .before .measure .result .worst .0) ≡ false
@@ -31,6 +30,9 @@ measure-requires c κs = search needs
 is-less-requires : tie.Need-is-less-requires
 is-less-requires c κs = search needs
 
+same-length : tie.Need-same-length
+same-length c = search needs
+
 returns : tie.Need-returns
 returns c =
     let m = c .before .before .before .before in
@@ -38,6 +40,9 @@ returns c =
 
 is-less-requires-2 : tie.Need-is-less-requires-2
 is-less-requires-2 c κs = search needs
+
+same-length-2 : tie.Need-same-length-2
+same-length-2 c = search needs
 
 returns-2 : tie.Need-returns-2
 returns-2 c =
@@ -50,36 +55,40 @@ value-requires c κs = search needs
 value-requires-2 : tie.Need-value-requires-2
 value-requires-2 c κs = search needs
 
+same-length-3 : tie.Need-same-length-3
+same-length-3 c = search needs
+
 returns-3 : tie.Need-returns-3
 returns-3 c =
     let m = c .before .before .before .before .before .before .before .before .before in
-    wire-other (net m) (listing m) (m .measure .result .worst .0) (m .measure .result .wire .0) (m .measure .ensures .0) (m .measure .ensures .1) (low (c .before .before .before)) (high (c .before .before .before)) (λ e. c .if3 .taken (c .before .before .value .ensures ∙ e ∙ sym (c .before .value2 .ensures)))
-
-slice-aggregate-kraft-maximum : tie.Need-slice-aggregate-kraft-maximum
-slice-aggregate-kraft-maximum c = search needs
-
-slice-aggregate-kraft-maximum-2 : tie.Need-slice-aggregate-kraft-maximum-2
-slice-aggregate-kraft-maximum-2 c = search needs
-
-slice-aggregate-kraft-maximum-3 : tie.Need-slice-aggregate-kraft-maximum-3
-slice-aggregate-kraft-maximum-3 c = search needs
-
-slice-aggregate-kraft-maximum-4 : tie.Need-slice-aggregate-kraft-maximum-4
-slice-aggregate-kraft-maximum-4 c = search needs
+    let d = c .before .before .before in
+    wire-other (net m) (listing m) (m .measure .result .worst .0) (m .measure .result .wire .0) (m .measure .ensures .0) (m .measure .ensures .1) (low d) (high d) (λ e. c .if3 .taken (c .before .before .value .ensures ∙ e ∙ sym (c .before .value2 .ensures)))
 
 kraft-maximum-requires : tie.Need-kraft-maximum-requires
 kraft-maximum-requires c κs =
-    let s = c .before .before .before .before .before .before .before .before .before .before .before .before .before .before .before in
-    let a = s .args in
-    let few = some-few (a .header) (a .n) (a .xs .now) (a .ys .now) (a .required .now) (s .pre .0) in
-    (s .pre .0, omega arith)
+    let s = c .before .before .before .before .before .before .before .before .before .before .before .before .before .before .before .before .before in
+    (s .pre .0 .0, omega (arith, s .pre .0 .1 .parents-in .long, s .pre .1))
+
+same-length-4 : tie.Need-same-length-4
+same-length-4 c = search needs
+
+same-length-5 : tie.Need-same-length-5
+same-length-5 c = search needs
+
+same-length-6 : tie.Need-same-length-6
+same-length-6 c = search needs
+
+same-length-7 : tie.Need-same-length-7
+same-length-7 c = search needs
 
 returns-4 : tie.Need-returns-4
 returns-4 c =
-    let m = c .before .before .before .before .before .before .before .before .before .before .before .before .before .before .before .before .before .before in
-    let held = m .before .before .pre .0 in
-    let d = c .before .before .before .before .before .before .before .before .before .before .before .before in
-    accepted (net m) (listing m) (m .measure .result .worst .0) (m .measure .result .wire .0) (m .measure .ensures .0) (m .measure .ensures .1) (low d) (high d) (sym (c .before .before .before .before .before .before .before .before .before .before .before .value .ensures) ∙ c .before .before .before .before .before .before .before .before .before .if3 .left ∙ c .before .before .before .before .before .before .before .before .before .before .value2 .ensures) (held .in-range .branch .0) (held .in-range .sinks .0) (c .before .before .before .before .kraft-maximum .result .0) (c .before .before .before .before .kraft-maximum .ensures)
+    let m = c .before .before .before .before .before .before .before .before .before .before .before .before .before .before .before .before .before .before .before .before in
+    let held = m .before .before .before .before .pre .0 .0 in
+    let d = c .before .before .before .before .before .before .before .before .before .before .before .before .before .before in
+    let best = c .before .before .before .before .before .before .kraft-maximum in
+    accepted (net m) (listing m) (m .measure .result .worst .0) (m .measure .result .wire .0) (m .measure .ensures .0) (m .measure .ensures .1) (low d) (high d)
+    (sym (c .before .before .before .before .before .before .before .before .before .before .before .before .before .value .ensures) ∙ c .before .before .before .before .before .before .before .before .before .before .before .if3 .left ∙ c .before .before .before .before .before .before .before .before .before .before .before .before .value2 .ensures) (held .in-range .branch .0) (held .in-range .sinks .0) (best .result .0) (best .ensures)
 
 pub judge-stated-spec : {M : Type 1} → statement M
 judge-stated-spec =
@@ -87,15 +96,18 @@ judge-stated-spec =
     (tie.spec
     measure-requires
     is-less-requires
+    same-length
     returns
     is-less-requires-2
+    same-length-2
     returns-2
     value-requires
     value-requires-2
+    same-length-3
     returns-3
-    slice-aggregate-kraft-maximum
-    slice-aggregate-kraft-maximum-2
-    slice-aggregate-kraft-maximum-3
-    slice-aggregate-kraft-maximum-4
     kraft-maximum-requires
+    same-length-4
+    same-length-5
+    same-length-6
+    same-length-7
     returns-4)

@@ -1,43 +1,47 @@
-use mathlib.Core.Path.{sym}
 use native.Mathlib.Omega.{arith}
 use borrow.Author.Needs.{needs}
-use Rattle.formats.proofs.Laws.Planning.{listed-length, no-room, written}
+use Rattle.formats.proofs.Laws.TextLengths.{listing-bound}
+use Rattle.formats.proofs.Laws.Planning.{written-in-place}
 use Rattle.formats.proofs.plan.emit.Statement.{statement}
 use Rattle.formats.proofs.plan.emit.Tie as tie
 
-slice-aggregate-write-listing : tie.Need-slice-aggregate-write-listing
-slice-aggregate-write-listing c = search needs
+mul-if1 : tie.Need-mul-if1
+mul-if1 c = search needs
 
-write-listing-requires : tie.Need-write-listing-requires
-write-listing-requires c κs = search needs
+add-if1 : tie.Need-add-if1
+add-if1 c = search needs
 
-returns : tie.Need-returns
-returns c = no-room _ _ _ _ _ (c .before .before .write-listing .ensures) _ (c .if1 .taken)
-
-array-share-prefix-listing : tie.Need-array-share-prefix-listing
-array-share-prefix-listing c = search needs
-
-slice-aggregate-put-bytes : tie.Need-slice-aggregate-put-bytes
-slice-aggregate-put-bytes c = sym (listed-length _ _ _ _ _ (c .before .before .before .before .write-listing .ensures))
-
-put-bytes-requires : tie.Need-put-bytes-requires
-put-bytes-requires c κs = omega (arith, listed-length _ _ _ _ _ (c .before .before .before .before .write-listing .ensures))
+emit-apart-requires : tie.Need-emit-apart-requires
+emit-apart-requires c κs = search needs
 
 same-length : tie.Need-same-length
 same-length c = search needs
 
+returns : tie.Need-returns
+returns c = search needs
+
+write-listing-requires : tie.Need-write-listing-requires
+write-listing-requires c κs =
+    let s = c .before .before .before .before in
+    (s .pre .0, (omega (arith, s .pre .1), omega (arith, listing-bound _ _ (s .pre .0), c .before .if1 .left)))
+
+same-length-2 : tie.Need-same-length-2
+same-length-2 c = search needs
+
 returns-2 : tie.Need-returns-2
-returns-2 c = written _ _ _ _ _ (c .before .before .before .before .before .before .before .write-listing .ensures) _ _ (c .before .before .before .before .before .if1 .left) (c .before .before .put-bytes .ensures .1)
+returns-2 c =
+    let s = c .before .before .before .before .before .before .before in
+    written-in-place _ _ _ _ _ (c .before .before .write-listing .ensures) (omega (arith, listing-bound _ _ (s .pre .0), c .before .before .before .before .if1 .left))
 
 pub emit-spec : {M : Type 1} → statement M
 emit-spec =
     tie.close
     (tie.spec
-    slice-aggregate-write-listing
-    write-listing-requires
-    returns
-    array-share-prefix-listing
-    slice-aggregate-put-bytes
-    put-bytes-requires
+    mul-if1
+    add-if1
+    emit-apart-requires
     same-length
+    returns
+    write-listing-requires
+    same-length-2
     returns-2)

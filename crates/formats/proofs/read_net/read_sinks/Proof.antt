@@ -8,19 +8,19 @@ use Rattle.formats.proofs.read_net.read_sinks.Statement.{statement}
 use Rattle.formats.proofs.read_net.read_sinks.Tie as tie
 
 abbrev Inv-loop : tie.InvT-loop
-Inv-loop text start header n xs₀ ys₀ required₀ at₀ done₀ xs ys required at done =
-    Sinking header (pointAt xs₀ ys₀ 0) n text start xs ys required at done
+Inv-loop text start n xs₀ ys₀ required₀ at₀ done₀ xs ys required at done =
+    Sinking (pointAt xs₀ ys₀ 0) n text start xs ys required at done
     × (length xs ≡ length xs₀)
     × (length ys ≡ length ys₀)
     × (length required ≡ length required₀)
 
 abbrev μ-loop : tie.MeasureT-loop
-μ-loop text start header n xs₀ ys₀ required₀ at₀ done₀ xs ys required at done = n - done
+μ-loop text start n xs₀ ys₀ required₀ at₀ done₀ xs ys required at done = n - done
 
 loop-holds : tie.Need-loop-holds Inv-loop μ-loop
 loop-holds c =
     let b = c .before in
-    (sinking-start (b .args .header) _ (b .args .n) _ _ _ _ _ (b .pre .0) (b .pre .2) (b .pre .3) (b .pre .4) refl, refl, refl, refl)
+    (sinking-start _ (b .args .n) _ _ _ _ _ (b .pre .0) (b .pre .2) (b .pre .3) (b .pre .4) refl, refl, refl, refl)
 
 add-read-sink : tie.Need-add-read-sink Inv-loop μ-loop
 add-read-sink c = search needs
@@ -34,8 +34,8 @@ enum-known-next c = search needs
 enum-known-number : tie.Need-enum-known-number Inv-loop μ-loop
 enum-known-number c = search needs
 
-add-t21 : tie.Need-add-t21 Inv-loop μ-loop
-add-t21 c = search needs
+add-t20 : tie.Need-add-t20 Inv-loop μ-loop
+add-t20 c = search needs
 
 same-length : tie.Need-same-length Inv-loop μ-loop
 same-length c = search needs
@@ -51,7 +51,7 @@ returns c =
     let k = c .before .before .before .before .before .before in
     let v = k .before .before .before .before .before .loop in
     let g = c .before .number .given in
-    sinking-refused _ _ _ _ _ _ _ _ (v .at) (v .done) (v .inv .0) (k .before .before .before .before .loop-test .taken) (g .0 .0) (rw (g .1) at (k .read-sink .ensures))
+    sinking-refused _ _ _ _ _ _ _ (v .at) (v .done) (v .inv .0) (k .before .before .before .before .loop-test .taken) (g .0 .0) (rw (g .1) at (k .read-sink .ensures))
 
 add-done : tie.Need-add-done Inv-loop μ-loop
 add-done c = search needs
@@ -65,10 +65,10 @@ loop-again c =
     let v = k .before .before .before .before .before .loop in
     let g = c .before .next .given in
     let p = k .read-sink in
-    (sinking-more _ _ _ _ _ _ _ _ (v .at) (v .done) (v .inv .0) (k .before .before .before .before .loop-test .taken) (g .0 .0) _ _ _ (rw (g .1) at (p .ensures)), p .kept .1 .1 .1 .0 ∙ v .inv .1, p .kept .1 .1 .1 .1 .0 ∙ v .inv .2, p .kept .1 .1 .1 .1 .1 .0 ∙ v .inv .3)
+    (sinking-more _ _ _ _ _ _ _ (v .at) (v .done) (v .inv .0) (k .before .before .before .before .loop-test .taken) (g .0 .0) _ _ _ (rw (g .1) at (p .ensures)), p .kept .1 .1 .1 .0 ∙ v .inv .1, p .kept .1 .1 .1 .1 .0 ∙ v .inv .2, p .kept .1 .1 .1 .1 .1 .0 ∙ v .inv .3)
 
-add-t24 : tie.Need-add-t24 Inv-loop μ-loop
-add-t24 c = search needs
+add-t23 : tie.Need-add-t23 Inv-loop μ-loop
+add-t23 c = search needs
 
 same-length-4 : tie.Need-same-length-4 Inv-loop μ-loop
 same-length-4 c = search needs
@@ -82,7 +82,7 @@ same-length-6 c = search needs
 returns-2 : tie.Need-returns-2 Inv-loop μ-loop
 returns-2 c =
     let v = c .before .before .loop in
-    sinking-left _ _ _ _ _ _ _ _ (v .at) (v .done) (v .inv .0) (c .before .loop-test .left) (c .if1 .taken)
+    sinking-left _ _ _ _ _ _ _ (v .at) (v .done) (v .inv .0) (c .before .loop-test .left) (c .if1 .taken)
 
 same-length-7 : tie.Need-same-length-7 Inv-loop μ-loop
 same-length-7 c = search needs
@@ -96,7 +96,7 @@ same-length-9 c = search needs
 returns-3 : tie.Need-returns-3 Inv-loop μ-loop
 returns-3 c =
     let v = c .before .before .loop in
-    sinking-end _ _ _ _ _ _ _ _ (v .at) (v .done) (v .inv .0) (c .before .loop-test .left) (c .if1 .left)
+    sinking-end _ _ _ _ _ _ _ (v .at) (v .done) (v .inv .0) (c .before .loop-test .left) (c .if1 .left)
 
 pub read-sinks-spec : {M : Type 1} → statement M
 read-sinks-spec =
@@ -109,7 +109,7 @@ read-sinks-spec =
     read-sink-requires
     enum-known-next
     enum-known-number
-    add-t21
+    add-t20
     same-length
     same-length-2
     same-length-3
@@ -117,7 +117,7 @@ read-sinks-spec =
     add-done
     loop-less
     loop-again
-    add-t24
+    add-t23
     same-length-4
     same-length-5
     same-length-6

@@ -1,0 +1,47 @@
+use native.Mathlib.Omega.{arith}
+use borrow.Author.Needs.{needs}
+use Rattle.formats.proofs.judge.judge_large.Statement.{statement}
+use Rattle.formats.proofs.judge.judge_large.Tie as tie
+
+slice-aggregate-judge-rest : tie.Need-slice-aggregate-judge-rest
+slice-aggregate-judge-rest c = search needs
+
+slice-aggregate-judge-rest-2 : tie.Need-slice-aggregate-judge-rest-2
+slice-aggregate-judge-rest-2 c = search needs
+
+slice-aggregate-judge-rest-3 : tie.Need-slice-aggregate-judge-rest-3
+slice-aggregate-judge-rest-3 c = search needs
+
+slice-aggregate-judge-rest-4 : tie.Need-slice-aggregate-judge-rest-4
+slice-aggregate-judge-rest-4 c = search needs
+
+slice-aggregate-judge-rest-5 : tie.Need-slice-aggregate-judge-rest-5
+slice-aggregate-judge-rest-5 c = search needs
+
+slice-aggregate-judge-rest-6 : tie.Need-slice-aggregate-judge-rest-6
+slice-aggregate-judge-rest-6 c = search needs
+
+slice-aggregate-judge-rest-7 : tie.Need-slice-aggregate-judge-rest-7
+slice-aggregate-judge-rest-7 c = search needs
+
+judge-rest-requires : tie.Need-judge-rest-requires
+judge-rest-requires c κs =
+    let p = c .before .before .before .before .before .before .before .before .before .pre in
+    ((p .0, omega (arith, p .1), p .2), omega (arith, p .1))
+
+returns : tie.Need-returns
+returns c = search needs
+
+pub judge-large-spec : {M : Type 1} → statement M
+judge-large-spec =
+    tie.close
+    (tie.spec
+    slice-aggregate-judge-rest
+    slice-aggregate-judge-rest-2
+    slice-aggregate-judge-rest-3
+    slice-aggregate-judge-rest-4
+    slice-aggregate-judge-rest-5
+    slice-aggregate-judge-rest-6
+    slice-aggregate-judge-rest-7
+    judge-rest-requires
+    returns)

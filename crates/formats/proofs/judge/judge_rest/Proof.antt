@@ -1,0 +1,105 @@
+use mathlib.Core.Path.{_≡_, _∙_}
+use native.Mathlib.Omega.{arith}
+use borrow.Author.Needs.{needs}
+use Rattle.tree.specs.Net.{Net}
+use Rattle.tree.specs.Arrays.{netOf}
+use Rattle.tree.proofs.Laws.Arrays.{size-is}
+use Rattle.formats.specs.NetText.{readNet}
+use Rattle.formats.specs.Reading.{value}
+use Rattle.formats.specs.Answers.{judgeFigures}
+use Rattle.formats.proofs.Laws.Held.{read-net-holds}
+use Rattle.formats.proofs.Laws.Judging.{listing-judged, net-refused}
+use Rattle.formats.proofs.judge.judge_rest.Statement.{statement}
+use Rattle.formats.proofs.judge.judge_rest.Tie as tie
+
+-- the net that was read
+abbrev netRead : tie.After-enum-told → Net
+netRead c =
+    let a = c .before .before .before .before .before .before .before .before .before .before .before .before .before .args in
+    let l = c .before .before .before .before .before .read-rest .last .1 .1 .1 .1 in
+    netOf (a .header) (a .n) (l .0) (l .1 .0) (l .1 .1 .0)
+
+read : (c : tie.After-enum-told) → readNet (c .before .before .before .before .before .before .before .before .before .before .before .before .before .args .net .now) ≡ value (netRead c)
+read c = let s = c .before .before .before .before .before .before .before .before .before .before .before .before .before in s .pre .0 .0 ∙ (rw (c .enum-told .given .1) at (c .before .before .before .before .before .read-rest .ensures (s .args .header)))
+
+read-rest-requires : tie.Need-read-rest-requires
+read-rest-requires c κs = search needs
+
+enum-known-number : tie.Need-enum-known-number
+enum-known-number c = search needs
+
+same-length : tie.Need-same-length
+same-length c = search needs
+
+same-length-2 : tie.Need-same-length-2
+same-length-2 c = search needs
+
+same-length-3 : tie.Need-same-length-3
+same-length-3 c = search needs
+
+returns : tie.Need-returns
+returns c =
+    let s = c .before .before .before .before .before .before .before .before .before .before .before .before .before .before in
+    net-refused _ _ _ _ (s .pre .0 .0 ∙ (rw (c .before .number .given .1) at (c .before .before .before .before .before .before .read-rest .ensures (s .args .header))))
+
+enum-told : tie.Need-enum-told
+enum-told c = search needs
+
+judge-listing-requires : tie.Need-judge-listing-requires
+judge-listing-requires c κs =
+    let s = c .before .before .before .before .before .before .before .before .before .before .before .before .before .before .before .before .before .before .before .before in
+    let a = s .args in
+    let r = c .before .before .before .before .before .before .before .before .before .before .before .before .read-rest in
+    let l = r .last .1 .1 .1 .1 in
+    let h = read-net-holds (a .header) (a .n) (l .0) (l .1 .0) (l .1 .1 .0) _ (read (c .before .before .before .before .before .before .before)) (omega (arith, r .kept, s .pre .1)) (omega (arith, r .kept, s .pre .1)) (omega (arith, r .kept, s .pre .1)) in
+    ((h, omega (arith, r .kept, s .pre .1), omega (arith, r .kept, s .pre .1)), omega (arith, s .pre .1))
+
+same-length-4 : tie.Need-same-length-4
+same-length-4 c = search needs
+
+same-length-5 : tie.Need-same-length-5
+same-length-5 c = search needs
+
+same-length-6 : tie.Need-same-length-6
+same-length-6 c = search needs
+
+same-length-7 : tie.Need-same-length-7
+same-length-7 c = search needs
+
+same-length-8 : tie.Need-same-length-8
+same-length-8 c = search needs
+
+same-length-9 : tie.Need-same-length-9
+same-length-9 c = search needs
+
+same-length-10 : tie.Need-same-length-10
+same-length-10 c = search needs
+
+returns-2 : tie.Need-returns-2
+returns-2 c =
+    let a = c .before .before .before .before .before .before .before .before .before .before .before .before .before .before .before .before .before .before .before .before .before .before .before .before .before .before .before .before .before .args in
+    let d = c .before .before .before .before .before .before .before .before .before .before .before .before .before .before .before .before in
+    let l = c .before .before .before .before .before .before .before .before .before .before .before .before .before .before .before .before .before .before .before .before .before .read-rest .last .1 .1 .1 .1 in
+    listing-judged (a .net .now) (a .listing .now) (netRead d) (a .n) (size-is (a .header) (a .n) (l .0) (l .1 .0) (l .1 .1 .0)) (read d)
+    (judgeFigures (c .before .before .before .before .before .before .before .before .judge-listing .result)) (c .before .before .before .before .before .before .before .before .judge-listing .ensures)
+
+pub judge-rest-spec : {M : Type 1} → statement M
+judge-rest-spec =
+    tie.close
+    (tie.spec
+    read-rest-requires
+    enum-known-number
+    same-length
+    same-length-2
+    same-length-3
+    returns
+    enum-told
+    judge-listing-requires
+    same-length-4
+    same-length-5
+    same-length-6
+    same-length-7
+    same-length-8
+    same-length-9
+    same-length-10
+    returns-2)
