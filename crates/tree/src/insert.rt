@@ -25,21 +25,37 @@ fn score_of(slacks: &[i64], worst: Time, branch: Time, u: usize) -> Time
     worst.least(Time::of(slacks[u]).minus(branch))
 }
 
-// Which of two sinks' edges is split rather: the one of larger score, on a tie the one of lower number.
-fn better(slacks: &[i64], worst: Time, branch: Time, v: usize, u: usize) -> usize
+// A sink whose edge may be split, and its score.
+struct Choice {
+    sink: usize,
+    score: Time,
+}
+
+// Which of two sinks' edges is split rather, the best so far or that of u: the one of larger score, on a tie the one of lower number.
+fn better(best: Choice, slacks: &[i64], worst: Time, branch: Time, u: usize) -> Choice
     requires { ⌜ (u < length (now slacks)) × Within termReach (getD (now slacks) u (pos 0)) × Within termReach (branch .0) ⌝ }
-    requires { ⌜ (v < length (now slacks)) × Within termReach (getD (now slacks) v (pos 0)) ⌝ }
-    ensures { λ r. ⌜ r ≡ cond (ranks (score (worst .0) (branch .0) (now (slacks .entry)) u) (score (worst .0) (branch .0) (now (slacks .entry)) v) (ltb u v)) u v ⌝ }
+    ensures sink { λ r. ⌜ r .sink ≡ cond (ranks (score (worst .0) (branch .0) (now (slacks .entry)) u) (best .score .0) (ltb u (best .sink))) u (best .sink) ⌝ }
+    ensures score { λ r. ⌜ r .score .0 ≡ cond (ranks (score (worst .0) (branch .0) (now (slacks .entry)) u) (best .score .0) (ltb u (best .sink))) (score (worst .0) (branch .0) (now (slacks .entry)) u) (best .score .0) ⌝ }
 {
-    let a = score_of(slacks, worst, branch, u);
-    let b = score_of(slacks, worst, branch, v);
-    if b.is_less(a) {
-        return u;
+    let sink = best.sink;
+    let score = best.score;
+    let next = score_of(slacks, worst, branch, u);
+    if score.is_less(next) {
+        return Choice {
+            sink: u,
+            score: next,
+        };
     }
-    if a.is_less(b) {
-        return v;
+    if next.is_less(score) {
+        return Choice { sink, score };
     }
-    if u < v { u } else { v }
+    if u < sink {
+        return Choice {
+            sink: u,
+            score: next,
+        };
+    }
+    Choice { sink, score }
 }
 
 // The sink whose edge is split: the best of the first k + 1.
@@ -48,13 +64,17 @@ fn choose(k: usize, sinks: &[usize], slacks: &[i64], worst: Time, branch: Time) 
     requires { ⌜ ((i : ℕ) → i ≤ k → (getD (now sinks) i 0 < length (now slacks)) × Within termReach (getD (now slacks) (getD (now sinks) i 0) (pos 0))) ⌝ }
     ensures { λ r. ⌜ r ≡ bestOf (score (worst .0) (branch .0) (now (slacks .entry))) ltb (take (suc k) (now (sinks .entry))) ⌝ }
 {
-    let mut best = sinks[0];
+    let first = sinks[0];
+    let mut best = Choice {
+        sink: first,
+        score: score_of(slacks, worst, branch, first),
+    };
     let mut i = 1;
     while i <= k {
-        best = better(slacks, worst, branch, best, sinks[i]);
+        best = better(best, slacks, worst, branch, sinks[i]);
         i += 1;
     }
-    best
+    best.sink
 }
 
 // Splits the edge above v: branch point b takes its place, and v and sink s hang on b.

@@ -32,12 +32,13 @@ module _ (f : ℕ → ℤ) (tie : ℕ → ℕ → Bool) (l : List ℕ) where
       go [] h = absurd (omega arith)
       go (x ∷ l) h = refl
 
-  best-cons : (v u : ℕ) (r : List ℕ) → best f tie v (f v) (u ∷ r) ≡ best f tie (cond (ranks (f u) (f v) (tie u v)) u v) (f (cond (ranks (f u) (f v) (tie u v)) u v)) r
-  best-cons v u r = go (ranks (f u) (f v) (tie u v))
+  -- the best so far is v, of score w
+  best-cons : (v : ℕ) (w : ℤ) (u : ℕ) (r : List ℕ) → best f tie v w (u ∷ r) ≡ best f tie (cond (ranks (f u) w (tie u v)) u v) (cond (ranks (f u) w (tie u v)) (f u) w) r
+  best-cons v w u r = go (ranks (f u) w (tie u v))
     where
-      go : (t : Bool) → _≡_ {A = ℕ} (elim t [ true ↦ best f tie u (f u) r | false ↦ best f tie v (f v) r ]) (best f tie (cond t u v) (f (cond t u v)) r)
+      go : (t : Bool) → _≡_ {A = ℕ} (elim t [ true ↦ best f tie u (f u) r | false ↦ best f tie v w r ]) (best f tie (cond t u v) (cond t (f u) w) r)
       go true = refl
       go false = refl
 
-  pub best-next : (v i : ℕ) → i < length l → best f tie v (f v) (drop i l) ≡ best f tie (cond (ranks (f (getD l i 0)) (f v) (tie (getD l i 0) v)) (getD l i 0) v) (f (cond (ranks (f (getD l i 0)) (f v) (tie (getD l i 0) v)) (getD l i 0) v)) (drop (i + 1) l)
-  best-next v i h = ap (best f tie v (f v)) (drop-cons l i 0 h) ∙ rw add-one (best-cons v (getD l i 0) (drop (suc i) l))
+  pub best-next : (v : ℕ) (w : ℤ) (i : ℕ) → i < length l → best f tie v w (drop i l) ≡ best f tie (cond (ranks (f (getD l i 0)) w (tie (getD l i 0) v)) (getD l i 0) v) (cond (ranks (f (getD l i 0)) w (tie (getD l i 0) v)) (f (getD l i 0)) w) (drop (i + 1) l)
+  best-next v w i h = ap (best f tie v w) (drop-cons l i 0 h) ∙ rw add-one (best-cons v w (getD l i 0) (drop (suc i) l))
