@@ -1,0 +1,109 @@
+/* The repeater tree planner: two calls on text.
+ *
+ * Positions and lengths are in micrometres (um), times in femtoseconds (fs),
+ * the wire factor in fs per um. A distance is |dx| + |dy|.
+ *
+ * What the caller owes:
+ *   - each pointer is not null and valid for its length, also where the
+ *     length is 0 (any non-null address will do then);
+ *   - each figure's pointer is valid and aligned for writing its type;
+ *   - the output and the figures overlap neither each other nor the inputs
+ *     (the two input texts may overlap, they are only read).
+ * The calls keep nothing, allocate nothing the caller must free, and may run
+ * in several threads at once.
+ */
+#ifndef REPEATER_TREE_H
+#define REPEATER_TREE_H
+
+#include <stddef.h>
+#include <stdint.h>
+
+#ifdef __cplusplus
+extern "C" {
+#endif
+
+/* The longest texts that are read, in bytes. No listing that a plan writes
+ * is longer than the second, so an output of that length is always enough. */
+#define REPEATER_TREE_NET_LENGTH 20480
+#define REPEATER_TREE_LISTING_LENGTH 24576
+
+/* The refusal's number, the result of both calls. Each says with which text
+ * (1 the net, 2 the listing, 0 neither) and line it comes; lines count from 1. */
+enum {
+    /* Nothing is refused; text and line are 0. */
+    REPEATER_TREE_DONE = 0,
+    /* The text is over its length. Line 0. */
+    REPEATER_TREE_TOO_LONG = 1,
+    /* The line due here is missing, lacks its end byte (newline, 10), or has
+     * another key, shape, spelling or vertex number than is due. Plus signs,
+     * leading zeros, -0, blanks and carriage returns are misspelt. */
+    REPEATER_TREE_MALFORMED = 2,
+    /* The line is well spelt, but a number on it is out of its range. */
+    REPEATER_TREE_OUT_OF_RANGE = 3,
+    /* Bytes follow the last line; the line is the one after the last. */
+    REPEATER_TREE_TRAILING = 4,
+    /* plan: no legal tree has the worst slack that the net's need line asks
+     * for. Text 1, line 4. */
+    REPEATER_TREE_UNREACHABLE = 5,
+    /* plan: the output is shorter than the listing. Text 0, line 0. */
+    REPEATER_TREE_SHORT_OUTPUT = 6,
+    /* judge: the listing's number of sinks is not the net's. Text 2, line 3. */
+    REPEATER_TREE_OTHER_SINKS = 7,
+    /* judge: the parent named on this listing line is a sink. */
+    REPEATER_TREE_SINK_PARENT = 8,
+    /* judge: the root has not exactly one child (line 0), or the branch point
+     * on this line has not exactly two; the lowest such branch point. */
+    REPEATER_TREE_CHILDREN = 9,
+    /* judge: the vertex on this line is not reached from the root; the lowest
+     * such vertex. Some branch points form a ring. */
+    REPEATER_TREE_UNREACHED = 10,
+    /* judge: the slack that the listing states is not its worst slack.
+     * Text 2, line 1. */
+    REPEATER_TREE_WRONG_SLACK = 11,
+    /* judge: the wire that the listing states is not its wire.
+     * Text 2, line 2. */
+    REPEATER_TREE_WRONG_WIRE = 12
+};
+
+/* Plans a tree of the largest possible worst slack for the net and writes its
+ * listing to out.
+ *
+ *   net, net_length   the net text
+ *   out, out_length   where the listing goes; bytes beyond it keep their values
+ *   text              the refusal's text, 0 to 1
+ *   line              the refusal's line, 0 to 518
+ *   slack             the plan's worst slack in fs, within +-4,000,000,000,000
+ *   wire              the plan's wire in um, 0 to 1,000,000,000
+ *   bytes             the listing's length, 0 to 24,576
+ *
+ * Every figure is written by every call. At a refusal (1 to 6) slack, wire and
+ * bytes are 0 and no byte of out is changed. */
+uint8_t repeater_tree_plan(const uint8_t *net, size_t net_length,
+                           uint8_t *out, size_t out_length,
+                           uint8_t *text, size_t *line,
+                           int64_t *slack, uint64_t *wire, size_t *bytes);
+
+/* Measures the tree of a listing over its net, and tells whether what the
+ * listing states is true. The net's need is read but not looked at.
+ *
+ *   net, net_length           the net text
+ *   listing, listing_length   the listing text
+ *   text                      the refusal's text, 1 to 2 (0: not refused)
+ *   line                      the refusal's line, 0 to 1,027
+ *   slack                     the tree's worst slack in fs, within +-4,000,000,000,000
+ *   wire                      the tree's wire in um, 0 to 1,000,000,000
+ *   best                      the largest worst slack of any legal tree over
+ *                             this net (its Kraft maximum) in fs
+ *
+ * Every figure is written by every call. At a refusal (1 to 4, 7 to 12) slack,
+ * wire and best are 0. The net is refused before the listing is looked at. */
+uint8_t repeater_tree_judge(const uint8_t *net, size_t net_length,
+                            const uint8_t *listing, size_t listing_length,
+                            uint8_t *text, size_t *line,
+                            int64_t *slack, uint64_t *wire, int64_t *best);
+
+#ifdef __cplusplus
+}
+#endif
+
+#endif

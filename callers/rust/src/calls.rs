@@ -1,0 +1,86 @@
+//! The two calls with every figure as the library gives it.
+
+/// All figures of a plan call.
+#[derive(Clone, Copy, Debug, Default, PartialEq, Eq)]
+pub struct PlanFigures {
+    pub number: u8,
+    pub text: u8,
+    pub line: usize,
+    pub slack: i64,
+    pub wire: u64,
+    pub bytes: usize,
+}
+
+/// All figures of a judge call.
+#[derive(Clone, Copy, Debug, Default, PartialEq, Eq)]
+pub struct JudgeFigures {
+    pub number: u8,
+    pub text: u8,
+    pub line: usize,
+    pub slack: i64,
+    pub wire: u64,
+    pub best: i64,
+}
+
+extern "C" {
+    fn repeater_tree_plan(
+        net: *const u8,
+        net_length: usize,
+        out: *mut u8,
+        out_length: usize,
+        text: *mut u8,
+        line: *mut usize,
+        slack: *mut i64,
+        wire: *mut u64,
+        bytes: *mut usize,
+    ) -> u8;
+
+    fn repeater_tree_judge(
+        net: *const u8,
+        net_length: usize,
+        listing: *const u8,
+        listing_length: usize,
+        text: *mut u8,
+        line: *mut usize,
+        slack: *mut i64,
+        wire: *mut u64,
+        best: *mut i64,
+    ) -> u8;
+}
+
+/// Plans, and overwrites every figure.
+pub fn plan_figures(net: &[u8], out: &mut [u8], f: &mut PlanFigures) {
+    // SAFETY: slices are non-null and valid for their lengths, also when empty;
+    // the exclusive borrows keep output and figures apart from all else.
+    f.number = unsafe {
+        repeater_tree_plan(
+            net.as_ptr(),
+            net.len(),
+            out.as_mut_ptr(),
+            out.len(),
+            &mut f.text,
+            &mut f.line,
+            &mut f.slack,
+            &mut f.wire,
+            &mut f.bytes,
+        )
+    };
+}
+
+/// Judges, and overwrites every figure.
+pub fn judge_figures(net: &[u8], listing: &[u8], f: &mut JudgeFigures) {
+    // SAFETY: as above; the two texts are only read.
+    f.number = unsafe {
+        repeater_tree_judge(
+            net.as_ptr(),
+            net.len(),
+            listing.as_ptr(),
+            listing.len(),
+            &mut f.text,
+            &mut f.line,
+            &mut f.slack,
+            &mut f.wire,
+            &mut f.best,
+        )
+    };
+}

@@ -1,0 +1,69 @@
+//! Safe calls of the repeater tree planner.
+//!
+//! Positions and lengths are in micrometres, times in femtoseconds.
+//!
+//! ```
+//! let net = b"root=0,0\nbranch=20\nwire=2\nneed=0\nsinks=1\nsink=3,4,20\n";
+//! let mut out = [0; repeater_tree::LISTING_LENGTH];
+//! let plan = repeater_tree::plan(net, &mut out).unwrap();
+//! assert_eq!((plan.slack, plan.wire), (6, 7));
+//!
+//! let measures = repeater_tree::judge(net, &out[..plan.bytes]).unwrap();
+//! assert_eq!(measures.best, 6);
+//! ```
+
+mod calls;
+mod refusal;
+
+pub use calls::{judge_figures, plan_figures, JudgeFigures, PlanFigures};
+pub use refusal::Refusal;
+
+/// The longest net text that is read, in bytes.
+pub const NET_LENGTH: usize = 20_480;
+/// The longest listing that is read, in bytes; enough for every plan.
+pub const LISTING_LENGTH: usize = 24_576;
+
+/// A plan's figures. Its listing is the output's first `bytes` bytes.
+#[derive(Clone, Copy, Debug, PartialEq, Eq)]
+pub struct Plan {
+    /// Worst slack, in femtoseconds.
+    pub slack: i64,
+    /// Wire, in micrometres.
+    pub wire: u64,
+    /// Length of the listing.
+    pub bytes: usize,
+}
+
+/// A judged listing's figures.
+#[derive(Clone, Copy, Debug, PartialEq, Eq)]
+pub struct Measures {
+    /// Worst slack of the listed tree, in femtoseconds.
+    pub slack: i64,
+    /// Wire of the listed tree, in micrometres.
+    pub wire: u64,
+    /// The largest worst slack of any legal tree over the net.
+    pub best: i64,
+}
+
+/// Plans the net and writes the listing to the front of `out`; the bytes
+/// beyond it, and all of them at a refusal, keep their values.
+///
+/// ```
+/// let refusal = repeater_tree::plan(b"", &mut []).unwrap_err();
+/// assert_eq!((refusal.number, refusal.text, refusal.line), (2, 1, 1));
+/// ```
+pub fn plan(net: &[u8], out: &mut [u8]) -> Result<Plan, Refusal> {
+    let mut f = PlanFigures::default();
+    plan_figures(net, out, &mut f);
+    Refusal::check(f.number, f.text, f.line)?;
+    Ok(Plan { slack: f.slack, wire: f.wire, bytes: f.bytes })
+}
+
+/// Measures the listed tree over its net, if the listing is legal and what it
+/// states is true.
+pub fn judge(net: &[u8], listing: &[u8]) -> Result<Measures, Refusal> {
+    let mut f = JudgeFigures::default();
+    judge_figures(net, listing, &mut f);
+    Refusal::check(f.number, f.text, f.line)?;
+    Ok(Measures { slack: f.slack, wire: f.wire, best: f.best })
+}

@@ -1,0 +1,115 @@
+//! The marked nets and lines of the order, on both references.
+
+use crate::answer::Answer;
+use crate::kraft;
+use crate::net::Net;
+use crate::tree::{median, Point};
+use crate::{plain, slow};
+
+const A_LISTING: &str = "slack=0\nwire=32\nsinks=3\nleaf=1,5\nleaf=2,5\nleaf=3,4\n\
+node=4,0,4,0\nnode=5,4,4,0\n";
+
+fn a(need: &str) -> String {
+    format!(
+        "root=0,0\nbranch=20\nwire=2\nneed={need}\nsinks=3\n\
+         sink=10,0,100\nsink=4,6,60\nsink=10,10,70\n"
+    )
+}
+
+fn plan(net: &str) -> (Answer, String) {
+    let mut out = vec![b'?'; 30_000];
+    let answer = slow::plan(net.as_bytes(), &mut out);
+    let mut other = vec![b'?'; 30_000];
+    assert_eq!(answer, plain::plan(net.as_bytes(), &mut other));
+    assert_eq!(out, other);
+    let written = if answer.number == 0 { answer.last as usize } else { 0 };
+    assert!(out[written..].iter().all(|&b| b == b'?'));
+    (answer, String::from_utf8(out[..written].to_vec()).unwrap())
+}
+
+fn refusal(answer: Answer) -> (u8, u8, usize) {
+    assert_eq!((answer.slack, answer.wire, answer.last), (0, 0, 0));
+    (answer.number, answer.text, answer.line)
+}
+
+fn refused_plan(net: &str) -> (u8, u8, usize) {
+    refusal(plan(net).0)
+}
+
+fn judge(net: &str, listing: &str) -> Answer {
+    let answer = slow::judge(net.as_bytes(), listing.as_bytes());
+    assert_eq!(answer, plain::judge(net.as_bytes(), listing.as_bytes()));
+    answer
+}
+
+fn judge_parents(parents: [usize; 5]) -> (u8, u8, usize) {
+    let [a1, b, c, d, e] = parents;
+    let tree = format!("leaf=1,{a1}\nleaf=2,{b}\nleaf=3,{c}\nnode=4,{d},0,0\nnode=5,{e},0,0\n");
+    refusal(judge(&a("0"), &format!("slack=0\nwire=0\nsinks=3\n{tree}")))
+}
+
+#[test]
+fn net_a() {
+    assert_eq!(Net::read(a("0").as_bytes()).unwrap().own_slacks(), [80, 40, 30]);
+    let (answer, text) = plan(&a("0"));
+    assert_eq!(answer, Answer::done(0, 32, A_LISTING.len() as i64));
+    assert_eq!(text, A_LISTING);
+    assert_eq!(judge(&a("0"), A_LISTING), Answer::done(0, 32, 0));
+    assert_eq!(refused_plan(&a("1")), (5, 1, 4));
+}
+
+#[test]
+fn three_sinks_at_the_root() {
+    let net = format!("root=0,0\nbranch=20\nwire=2\nneed=-40\nsinks=3\n{}", "sink=0,0,0\n".repeat(3));
+    let (answer, text) = plan(&net);
+    assert_eq!((answer.slack, answer.wire), (-40, 0));
+    assert!(text.ends_with("leaf=1,5\nleaf=2,4\nleaf=3,5\nnode=4,0,0,0\nnode=5,4,0,0\n"));
+}
+
+#[test]
+fn one_sink() {
+    for c in [1, 20, 1_000_000] {
+        let net = format!("root=0,0\nbranch={c}\nwire=2\nneed=-4\nsinks=1\nsink=3,4,10\n");
+        let (answer, text) = plan(&net);
+        assert_eq!((answer.slack, answer.wire), (-4, 7));
+        assert_eq!(judge(&net, &text).last, -4);
+        assert_eq!(kraft::maximum(&Net::read(net.as_bytes()).unwrap()), -4);
+    }
+}
+
+#[test]
+fn small_figures() {
+    assert_eq!(kraft::maximum_of(&[5, 5], 3), 2);
+    let p = |x, y| Point::new(x, y);
+    assert_eq!(median(p(0, 0), p(4, 6), p(10, 0)), p(4, 0));
+}
+
+#[test]
+fn listings_of_a() {
+    let with = |from: &str, to: &str| refusal(judge(&a("0"), &A_LISTING.replace(from, to)));
+    assert_eq!(with("slack=0", "slack=1"), (11, 2, 1));
+    assert_eq!(with("wire=32", "wire=31"), (12, 2, 2));
+    assert_eq!(judge_parents([0, 4, 5, 5, 4]), (10, 2, 5));
+    assert_eq!(judge_parents([4, 4, 4, 0, 4]), (9, 2, 7));
+}
+
+#[test]
+fn refused_nets() {
+    assert_eq!(refused_plan(""), (2, 1, 1));
+    assert_eq!(refused_plan(&a("0").replace("branch=20", "branch=0")), (3, 1, 2));
+    assert_eq!(refused_plan(&a("-0")), (2, 1, 4));
+    assert_eq!(refused_plan(&a("0").replace("sinks=3", "sinks=513")), (3, 1, 5));
+    assert_eq!(plan(&a("-2000000000000").replace("=10,0", "=100000,0")).0.number, 0);
+    assert_eq!(refused_plan(&a("0").replace("=10,0", "=100001,0")), (3, 1, 6));
+}
+
+#[test]
+fn full_net() {
+    let head = "root=0,0\nbranch=20\nwire=2\nneed=-2000000000000\nsinks=512\n";
+    let net = format!("{head}{}", "sink=1,1,5\n".repeat(512));
+    let mut out = vec![0; 24_576];
+    let answer = plain::plan(net.as_bytes(), &mut out);
+    assert_eq!((answer.number, answer.slack), (0, 5 - 4 - 9 * 20));
+    let listing = &out[..answer.last as usize];
+    assert_eq!(slow::judge(net.as_bytes(), listing).last, answer.slack);
+}

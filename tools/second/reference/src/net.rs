@@ -1,0 +1,92 @@
+//! The net and its text.
+
+use crate::answer::Refusal;
+use crate::spelling::Lines;
+use crate::tree::Point;
+
+pub const LENGTH: usize = 20_480;
+pub const COORDINATE: i64 = 100_000;
+pub const BRANCH: (i64, i64) = (1, 1_000_000);
+pub const WIRE: (i64, i64) = (1, 10_000);
+pub const NEED: (i64, i64) = (-2_000_000_000_000, 2_000_000_000_000);
+pub const SINKS: (i64, i64) = (1, 512);
+pub const ARRIVAL: (i64, i64) = (-1_000_000_000_000, 1_000_000_000_000);
+
+#[derive(Clone, Copy, Debug, PartialEq, Eq)]
+pub struct Sink {
+    pub at: Point,
+    pub arrival: i64,
+}
+
+#[derive(Clone, Debug, PartialEq, Eq)]
+pub struct Net {
+    pub root: Point,
+    /// c
+    pub branch: i64,
+    /// d
+    pub wire: i64,
+    /// t
+    pub need: i64,
+    pub sinks: Vec<Sink>,
+}
+
+impl Net {
+    pub fn read(bytes: &[u8]) -> Result<Net, Refusal> {
+        let mut lines = Lines::new(bytes, 1, LENGTH)?;
+        let root = read_point(&mut lines)?;
+        let branch = read_one(&mut lines, "branch=", BRANCH)?;
+        let wire = read_one(&mut lines, "wire=", WIRE)?;
+        let need = read_one(&mut lines, "need=", NEED)?;
+        let count = read_one(&mut lines, "sinks=", SINKS)?;
+        let mut sinks = Vec::new();
+        for _ in 0..count {
+            sinks.push(read_sink(&mut lines)?);
+        }
+        lines.finish()?;
+        Ok(Net { root, branch, wire, need, sinks })
+    }
+
+    pub fn text(&self) -> Vec<u8> {
+        let mut text = format!("root={},{}\n", self.root.x, self.root.y);
+        text += &format!("branch={}\nwire={}\nneed={}\n", self.branch, self.wire, self.need);
+        text += &format!("sinks={}\n", self.sinks.len());
+        for sink in &self.sinks {
+            text += &format!("sink={},{},{}\n", sink.at.x, sink.at.y, sink.arrival);
+        }
+        text.into_bytes()
+    }
+
+    /// a' of sink k, 1 to n.
+    pub fn own_slack(&self, k: usize) -> i128 {
+        let sink = &self.sinks[k - 1];
+        sink.arrival as i128 - self.wire as i128 * self.root.distance(sink.at)
+    }
+
+    pub fn own_slacks(&self) -> Vec<i128> {
+        (1..=self.sinks.len()).map(|k| self.own_slack(k)).collect()
+    }
+}
+
+fn read_point(lines: &mut Lines) -> Result<Point, Refusal> {
+    let numbers = lines.due("root=", 2)?;
+    let x = lines.value(numbers[0], -COORDINATE, COORDINATE)?;
+    let y = lines.value(numbers[1], -COORDINATE, COORDINATE)?;
+    lines.step();
+    Ok(Point::new(x, y))
+}
+
+fn read_one(lines: &mut Lines, key: &str, range: (i64, i64)) -> Result<i64, Refusal> {
+    let numbers = lines.due(key, 1)?;
+    let value = lines.value(numbers[0], range.0, range.1)?;
+    lines.step();
+    Ok(value)
+}
+
+fn read_sink(lines: &mut Lines) -> Result<Sink, Refusal> {
+    let numbers = lines.due("sink=", 3)?;
+    let x = lines.value(numbers[0], -COORDINATE, COORDINATE)?;
+    let y = lines.value(numbers[1], -COORDINATE, COORDINATE)?;
+    let arrival = lines.value(numbers[2], ARRIVAL.0, ARRIVAL.1)?;
+    lines.step();
+    Ok(Sink { at: Point::new(x, y), arrival })
+}
