@@ -1,1 +1,10 @@
-//! Comparison of the library with the reference.
+//! Comparison of the library with the reference, kind of case by kind.
+
+pub mod damage;
+pub mod kinds;
+pub mod library;
+pub mod nets;
+pub mod programs;
+pub mod random;
+pub mod session;
+pub mod trees;

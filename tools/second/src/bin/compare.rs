@@ -1,0 +1,99 @@
+//! compare [--seed S] [--count N] [--programs DIR] [--replay KIND:SEED]
+//!
+//! Compares the library with the references on seeded nets and texts, N rounds
+//! over all kinds of case. Exits with 1 if anything disagrees.
+
+use second_tool::kinds::ALL;
+use second_tool::programs;
+use second_tool::random::Random;
+use second_tool::session::Session;
+use std::path::PathBuf;
+use std::process::ExitCode;
+
+const SEED: u64 = 20_090_401;
+const ROUNDS: u64 = 1000;
+
+struct Asked {
+    seed: u64,
+    rounds: u64,
+    programs: Option<PathBuf>,
+    replay: Option<(String, u64)>,
+}
+
+fn asked() -> Option<Asked> {
+    let mut asked = Asked { seed: SEED, rounds: ROUNDS, programs: None, replay: None };
+    let mut words = std::env::args().skip(1);
+    while let Some(word) = words.next() {
+        let value = words.next()?;
+        match word.as_str() {
+            "--seed" => asked.seed = value.parse().ok()?,
+            "--count" => asked.rounds = value.parse().ok()?,
+            "--programs" => asked.programs = Some(PathBuf::from(value)),
+            "--replay" => {
+                let (kind, seed) = value.split_once(':')?;
+                asked.replay = Some((kind.to_string(), seed.parse().ok()?));
+            }
+            _ => return None,
+        }
+    }
+    Some(asked)
+}
+
+fn replay(s: &mut Session, name: &str, seed: u64, programs: Option<PathBuf>) -> std::io::Result<()> {
+    if name.starts_with("program-") {
+        return run_programs(s, programs, seed);
+    }
+    let kind = ALL.iter().find(|k| k.name == name).ok_or(std::io::ErrorKind::NotFound)?;
+    s.start(kind.name, seed);
+    (kind.run)(s, &mut Random::new(seed));
+    Ok(())
+}
+
+fn rounds(s: &mut Session, seed: u64, rounds: u64) {
+    let mut seeds = Random::new(seed);
+    for round in 0..rounds {
+        for kind in ALL {
+            let seed = seeds.next();
+            if round % kind.every == 0 {
+                s.start(kind.name, seed);
+                (kind.run)(s, &mut Random::new(seed));
+            }
+        }
+    }
+}
+
+fn run_programs(s: &mut Session, folder: Option<PathBuf>, seed: u64) -> std::io::Result<()> {
+    let Some(folder) = folder else { return Ok(()) };
+    let work = std::env::temp_dir().join(format!("repeater_tree_compare_{}", std::process::id()));
+    std::fs::create_dir_all(&work)?;
+    let result = programs::compare(s, &folder, &work, seed);
+    std::fs::remove_dir_all(&work)?;
+    result
+}
+
+fn main() -> ExitCode {
+    let Some(asked) = asked() else {
+        eprintln!("compare [--seed S] [--count N] [--programs DIR] [--replay KIND:SEED]");
+        return ExitCode::from(2);
+    };
+    let mut s = Session::default();
+    let ran = match asked.replay {
+        Some((kind, seed)) => replay(&mut s, &kind, seed, asked.programs),
+        None => {
+            rounds(&mut s, asked.seed, asked.rounds);
+            run_programs(&mut s, asked.programs, asked.seed)
+        }
+    };
+    for (kind, count) in &s.counts {
+        println!("{kind:>16} {count:>9}");
+    }
+    println!("compared {} cases, {} disagreements", s.total(), s.disagreements);
+    match ran {
+        Err(error) => {
+            eprintln!("compare: {error}");
+            ExitCode::from(2)
+        }
+        Ok(()) if s.total() == 0 || s.disagreements > 0 => ExitCode::from(1),
+        Ok(()) => ExitCode::SUCCESS,
+    }
+}

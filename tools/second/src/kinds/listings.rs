@@ -1,0 +1,80 @@
+//! Listings of random trees.
+
+use crate::nets;
+use crate::random::Random;
+use crate::session::Session;
+use crate::trees;
+use second_reference::listing::Listing;
+use second_reference::net::{Net, COORDINATE};
+use second_reference::slow::listing_of;
+
+fn random_listing(r: &mut Random, net: &Net) -> Listing {
+    let parent = trees::random_parents(r, net.sinks.len());
+    let spread = r.pick(&[3, 5_000, COORDINATE]);
+    let mut tree = trees::placed(r, net, parent, spread);
+    if r.once_in(3) {
+        for at in &mut tree.point[net.sinks.len() + 1..] {
+            at.x = r.pick(&[-COORDINATE, COORDINATE]) as i128;
+            at.y = r.pick(&[-COORDINATE, COORDINATE]) as i128;
+        }
+    }
+    listing_of(net, tree)
+}
+
+/// A true listing is accepted; one that is off by one in slack or wire is not.
+fn judged(s: &mut Session, r: &mut Random, n: usize) {
+    let net = nets::any(r, n);
+    let text = net.text();
+    let listing = random_listing(r, &net);
+    let off = r.pick(&[-1, 1]);
+    for (slack, wire, number) in [(0, 0, 0), (off, 0, 11), (0, off, 12), (off, off, 11)] {
+        let mut other = listing.clone();
+        other.slack += slack;
+        other.wire += wire;
+        if other.wire < 0 {
+            continue;
+        }
+        let bytes = other.text();
+        let answer = s.judge(&text, &bytes);
+        s.expect(answer.number == number, "a true or false listing is taken otherwise", &text, &bytes);
+    }
+}
+
+pub fn random(s: &mut Session, r: &mut Random) {
+    let n = r.pick(&[1, 2, 3, 4, 7, 12, 30, 64]);
+    judged(s, r, n);
+}
+
+pub fn full(s: &mut Session, r: &mut Random) {
+    judged(s, r, 512);
+}
+
+/// A listing of another number of sinks.
+pub fn wrong_n(s: &mut Session, r: &mut Random) {
+    let n = r.between(1, 20) as usize;
+    let other = if r.once_in(2) { n + 1 } else { r.between(1, 20) as usize };
+    let (net, rival) = (nets::common(r, n), nets::common(r, other));
+    let bytes = random_listing(r, &rival).text();
+    let answer = s.judge(&net.text(), &bytes);
+    let right = (answer.number == 7) == (n != other);
+    s.expect(right, "7 is not given exactly for another n", &net.text(), &bytes);
+}
+
+/// A legal tree with one or two parents exchanged or replaced: rings, wrong
+/// counts, sinks as parents.
+pub fn rings(s: &mut Session, r: &mut Random) {
+    let n = r.pick(&[2, 3, 4, 6, 10, 40, 130]);
+    let net = nets::common(r, n);
+    let text = net.text();
+    let listing = random_listing(r, &net);
+    for _ in 0..4 {
+        let mut other = listing.clone();
+        let (i, j) = (1 + r.index(2 * n - 1), 1 + r.index(2 * n - 1));
+        match r.index(4) {
+            0 => other.tree.parent[i] = r.index(2 * n),
+            1 => other.tree.parent[i] = i,
+            _ => other.tree.parent.swap(i, j),
+        }
+        s.judge(&text, &other.text());
+    }
+}

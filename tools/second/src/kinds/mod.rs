@@ -1,0 +1,45 @@
+//! The kinds of case. Each draws its cases from one seed.
+
+mod enumerated;
+mod listings;
+mod planned;
+mod spoilt;
+
+use crate::random::Random;
+use crate::session::Session;
+
+pub struct Kind {
+    pub name: &'static str,
+    /// Runs once in so many rounds, since some are long.
+    pub every: u64,
+    pub run: fn(&mut Session, &mut Random),
+}
+
+const fn kind(name: &'static str, every: u64, run: fn(&mut Session, &mut Random)) -> Kind {
+    Kind { name, every, run }
+}
+
+pub const ALL: &[Kind] = &[
+    kind("marked", 100, planned::marked),
+    kind("random", 1, planned::random),
+    kind("ties", 1, planned::ties),
+    kind("coincident", 1, planned::coincident),
+    kind("extremes", 1, planned::extremes),
+    kind("path-like", 1, planned::path_like),
+    kind("512-sinks", 10, planned::full),
+    kind("small", 1, planned::small),
+    kind("need", 1, planned::need),
+    kind("outputs", 1, planned::outputs),
+    kind("enumerated", 10, enumerated::legal),
+    kind("parents", 40, enumerated::parents),
+    kind("listings", 1, listings::random),
+    kind("listings-512", 20, listings::full),
+    kind("wrong-n", 2, listings::wrong_n),
+    kind("rings", 1, listings::rings),
+    kind("spoilt-net", 1, spoilt::net),
+    kind("spoilt-listing", 1, spoilt::listing),
+    kind("spoilt-both", 1, spoilt::both),
+    kind("cuts", 20, spoilt::cuts),
+    kind("numbers", 40, spoilt::numbers),
+    kind("lengths", 10, spoilt::lengths),
+];

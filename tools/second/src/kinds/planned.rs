@@ -1,0 +1,107 @@
+//! Nets that are planned, and whose plans are judged.
+
+use crate::nets;
+use crate::random::Random;
+use crate::session::Session;
+use repeater_tree::LISTING_LENGTH;
+use second_reference::kraft;
+use second_reference::net::{Net, NEED};
+
+/// Plans, then judges the plan's own bytes: same slack, same wire, best is the
+/// slack.
+fn plan_and_judge(s: &mut Session, net: &Net) {
+    let text = net.text();
+    let plan = s.plan(&text, LISTING_LENGTH);
+    if plan.answer.number != 0 {
+        s.expect(plan.answer.number == 5, "a net in the format is refused", &text, b"");
+        return;
+    }
+    let judged = s.judge(&text, plan.listing());
+    let same = (judged.number, judged.slack, judged.wire, judged.last)
+        == (0, plan.answer.slack, plan.answer.wire, plan.answer.slack);
+    s.expect(same, "the judge measures a plan otherwise", &text, plan.listing());
+    let best = kraft::maximum(net) == plan.answer.slack as i128;
+    s.expect(best, "a plan's slack is not the Kraft maximum", &text, plan.listing());
+}
+
+pub fn marked(s: &mut Session, _: &mut Random) {
+    let nets: [&[u8]; 4] = [
+        b"root=0,0\nbranch=20\nwire=2\nneed=0\nsinks=3\nsink=10,0,100\nsink=4,6,60\nsink=10,10,70\n",
+        b"root=0,0\nbranch=20\nwire=2\nneed=-40\nsinks=3\nsink=0,0,0\nsink=0,0,0\nsink=0,0,0\n",
+        b"root=0,0\nbranch=20\nwire=2\nneed=-4\nsinks=1\nsink=3,4,10\n",
+        b"root=0,0\nbranch=3\nwire=1\nneed=2\nsinks=2\nsink=0,0,5\nsink=1,0,6\n",
+    ];
+    for text in nets {
+        let mut net = Net::read(text).expect("a marked net");
+        plan_and_judge(s, &net);
+        net.need += 1;
+        plan_and_judge(s, &net);
+    }
+}
+
+pub fn random(s: &mut Session, r: &mut Random) {
+    let n = r.between(1, 60) as usize;
+    plan_and_judge(s, &nets::common(r, n));
+}
+
+pub fn ties(s: &mut Session, r: &mut Random) {
+    let n = r.between(2, 40) as usize;
+    plan_and_judge(s, &nets::tied(r, n));
+}
+
+pub fn coincident(s: &mut Session, r: &mut Random) {
+    let n = r.between(2, 40) as usize;
+    plan_and_judge(s, &nets::coincident(r, n));
+}
+
+pub fn extremes(s: &mut Session, r: &mut Random) {
+    let n = if r.once_in(30) { 512 } else { r.between(1, 40) as usize };
+    plan_and_judge(s, &nets::extreme(r, n));
+}
+
+pub fn path_like(s: &mut Session, r: &mut Random) {
+    let n = r.pick(&[3, 17, 24, 60, 150]);
+    plan_and_judge(s, &nets::path_like(r, n));
+}
+
+pub fn full(s: &mut Session, r: &mut Random) {
+    plan_and_judge(s, &nets::any(r, 512));
+}
+
+pub fn small(s: &mut Session, r: &mut Random) {
+    let n = r.between(1, 24) as usize;
+    plan_and_judge(s, &nets::any(r, n));
+}
+
+/// 5 exactly where the need is above the Kraft maximum.
+pub fn need(s: &mut Session, r: &mut Random) {
+    let n = r.between(1, 50) as usize;
+    let mut net = nets::any(r, n);
+    let best = kraft::maximum(&net) as i64;
+    let far = r.between(NEED.0, NEED.1);
+    for need in [best, best - 1, best + 1, best - net.branch, best + net.branch, far, NEED.1] {
+        net.need = need.clamp(NEED.0, NEED.1);
+        let text = net.text();
+        let length = r.pick(&[0, 40, LISTING_LENGTH]);
+        let number = s.plan(&text, length).answer.number;
+        let right = (number == 5) == (best < net.need);
+        s.expect(right, "5 is not given exactly where the need is unreachable", &text, b"");
+    }
+}
+
+/// 6 exactly where the output is shorter than the listing.
+pub fn outputs(s: &mut Session, r: &mut Random) {
+    let n = r.pick(&[1, 2, 3, 5, 9, 20, 70]);
+    let mut net = nets::any(r, n);
+    if r.once_in(6) {
+        net.need = NEED.1;
+    }
+    let text = net.text();
+    let exact = s.plan(&text, 2 * LISTING_LENGTH).answer.last as usize;
+    let below = r.index(exact.max(1));
+    for length in [0, 1, exact.saturating_sub(1), exact, exact + 1, exact + 1000, below] {
+        let number = s.plan(&text, length).answer.number;
+        let right = number == 5 || (number == 6) == (length < exact);
+        s.expect(right, "6 is not given exactly where the output is too short", &text, b"");
+    }
+}

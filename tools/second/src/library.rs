@@ -1,0 +1,33 @@
+//! The library's calls in the form of the reference's answers.
+
+use repeater_tree::{judge_figures, plan_figures, JudgeFigures, PlanFigures};
+use second_reference::answer::Answer;
+
+/// The figures are preset, so that one which the library leaves unwritten
+/// shows.
+pub fn plan(net: &[u8], out: &mut [u8]) -> Answer {
+    let mut f =
+        PlanFigures { number: 99, text: 99, line: 99, slack: -99, wire: 99, bytes: 99_999 };
+    plan_figures(net, out, &mut f);
+    Answer {
+        number: f.number,
+        text: f.text,
+        line: f.line,
+        slack: f.slack,
+        wire: f.wire,
+        last: f.bytes as i64,
+    }
+}
+
+pub fn judge(net: &[u8], listing: &[u8]) -> Answer {
+    let mut f = JudgeFigures { number: 99, text: 99, line: 99, slack: -99, wire: 99, best: -99 };
+    judge_figures(net, listing, &mut f);
+    Answer {
+        number: f.number,
+        text: f.text,
+        line: f.line,
+        slack: f.slack,
+        wire: f.wire,
+        last: f.best,
+    }
+}

@@ -1,0 +1,109 @@
+//! The two programs: what they print against what the reference says.
+
+use crate::damage;
+use crate::nets;
+use crate::random::Random;
+use crate::session::Session;
+use repeater_tree::{LISTING_LENGTH, NET_LENGTH};
+use second_reference::answer::Answer;
+use second_reference::plain;
+use std::io::{Result, Write};
+use std::path::Path;
+use std::process::{Command, Stdio};
+
+const CASES: u64 = 60;
+
+/// `work` is a folder of the caller's for net.txt and tree.txt.
+pub fn compare(s: &mut Session, programs: &Path, work: &Path, seed: u64) -> Result<()> {
+    let programs = programs.canonicalize()?;
+    for i in 0..CASES {
+        let mut r = Random::new(seed.wrapping_add(i));
+        let (net, listing) = texts(&mut r, i);
+        s.start("program-plan", seed);
+        s.count();
+        let printed = run_plan(&programs, &net)?;
+        report(s, &printed, &expected_plan(&net), &[("net", &net)]);
+        s.start("program-judge", seed);
+        s.count();
+        let printed = run_judge(&programs, work, &net, &listing)?;
+        let expected = expected_judge(&net, &listing);
+        report(s, &printed, &expected, &[("net", &net), ("listing", &listing)]);
+    }
+    Ok(())
+}
+
+/// Good texts, reachable or not, and each kind of damage in turn.
+fn texts(r: &mut Random, i: u64) -> (Vec<u8>, Vec<u8>) {
+    let n = if i == 0 { 512 } else { r.between(1, 30) as usize };
+    let mut good = nets::any(r, n);
+    let mut out = vec![0; LISTING_LENGTH];
+    let bytes = plain::plan(&good.text(), &mut out).last as usize;
+    out.truncate(bytes);
+    if i % 7 == 6 {
+        good.need = r.between(-1_000_000, 1_000_000);
+    }
+    let net = good.text();
+    match i % 5 {
+        1 => (damage::any(r, &net), out),
+        2 => (net, damage::any(r, &out)),
+        3 => {
+            let over = r.pick(&[0, 1]);
+            let long = damage::of_length(r, &net, NET_LENGTH + over).swap_remove(0);
+            (long, damage::of_length(r, &out, LISTING_LENGTH + over).swap_remove(1))
+        }
+        4 if i % 2 == 0 => {
+            let long = damage::of_length(r, &out, LISTING_LENGTH + 1).swap_remove(0);
+            (net, long)
+        }
+        _ => (net, out),
+    }
+}
+
+fn refused(a: Answer) -> Vec<u8> {
+    format!("refused={},{},{}\n", a.number, a.text, a.line).into_bytes()
+}
+
+fn expected_plan(net: &[u8]) -> Vec<u8> {
+    let mut out = vec![0; LISTING_LENGTH];
+    let answer = plain::plan(net, &mut out);
+    out.truncate(answer.last as usize);
+    if answer.number == 0 { out } else { refused(answer) }
+}
+
+fn expected_judge(net: &[u8], listing: &[u8]) -> Vec<u8> {
+    let a = plain::judge(net, listing);
+    match a.number {
+        0 => format!("slack={}\nwire={}\nbest={}\n", a.slack, a.wire, a.last).into_bytes(),
+        _ => refused(a),
+    }
+}
+
+fn run_plan(programs: &Path, net: &[u8]) -> Result<Vec<u8>> {
+    let mut child = Command::new(programs.join("plan"))
+        .stdin(Stdio::piped())
+        .stdout(Stdio::piped())
+        .spawn()?;
+    let mut input = child.stdin.take().expect("piped");
+    // In two pieces, as a pipe may deliver it. A program may stop reading at
+    // the length limit, so a broken pipe is no fault.
+    let (front, back) = net.split_at(net.len() / 2);
+    let _ = input.write_all(front).and_then(|()| input.flush()).and_then(|()| input.write_all(back));
+    drop(input);
+    Ok(child.wait_with_output()?.stdout)
+}
+
+fn run_judge(programs: &Path, work: &Path, net: &[u8], listing: &[u8]) -> Result<Vec<u8>> {
+    std::fs::write(work.join("net.txt"), net)?;
+    std::fs::write(work.join("tree.txt"), listing)?;
+    Ok(Command::new(programs.join("judge")).current_dir(work).output()?.stdout)
+}
+
+fn report(s: &mut Session, printed: &[u8], expected: &[u8], texts: &[(&str, &[u8])]) {
+    if printed == expected {
+        return;
+    }
+    let mut texts = texts.to_vec();
+    texts.push(("printed", printed));
+    texts.push(("expected", expected));
+    s.disagree("the program prints otherwise", &texts);
+}

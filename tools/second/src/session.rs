@@ -1,0 +1,140 @@
+//! Runs cases on the library and on the references, counts them, and prints
+//! every disagreement so that it can be replayed.
+
+use crate::library;
+use second_reference::answer::Answer;
+use second_reference::net::Net;
+use second_reference::{kraft, plain, slow};
+use std::collections::BTreeMap;
+
+/// Past the output lent to the library; must stay as it was.
+const GUARD: usize = 64;
+/// Enough to see what is wrong without flooding the screen.
+const MOST_PRINTED: usize = 20;
+
+pub struct Session {
+    kind: &'static str,
+    seed: u64,
+    pub counts: BTreeMap<&'static str, u64>,
+    pub disagreements: usize,
+}
+
+/// What a plan left in the output, beside its figures.
+pub struct Planned {
+    pub answer: Answer,
+    pub out: Vec<u8>,
+}
+
+impl Planned {
+    pub fn listing(&self) -> &[u8] {
+        &self.out[..self.answer.last as usize]
+    }
+}
+
+impl Default for Session {
+    fn default() -> Session {
+        Session { kind: "", seed: 0, counts: BTreeMap::new(), disagreements: 0 }
+    }
+}
+
+impl Session {
+    pub fn start(&mut self, kind: &'static str, seed: u64) {
+        self.kind = kind;
+        self.seed = seed;
+    }
+
+    pub fn total(&self) -> u64 {
+        self.counts.values().sum()
+    }
+
+    /// Plans with an output of this length, on the library and on each
+    /// reference that can.
+    pub fn plan(&mut self, net: &[u8], length: usize) -> Planned {
+        self.count();
+        let mut out = fill(length + GUARD);
+        let answer = library::plan(net, &mut out[..length]);
+        let mut other = fill(length + GUARD);
+        let expected = plain::plan(net, &mut other[..length]);
+        self.compare_plan("plain", net, (answer, &out), (expected, &other));
+        let read = Net::read(net);
+        if read.as_ref().is_err() || read.as_ref().is_ok_and(|n| n.sinks.len() <= slow::MOST_SINKS) {
+            let mut other = fill(length + GUARD);
+            let expected = slow::plan(net, &mut other[..length]);
+            self.compare_plan("slow", net, (answer, &out), (expected, &other));
+        } else if let Ok(read) = read {
+            self.compare_kraft(net, length, answer, &read);
+        }
+        out.truncate(length);
+        Planned { answer, out }
+    }
+
+    /// What the definitions alone say of a large net's plan.
+    fn compare_kraft(&mut self, text: &[u8], length: usize, answer: Answer, net: &Net) {
+        let best = kraft::maximum(net);
+        let holds = match answer.number {
+            5 => best < net.need as i128,
+            6 => best >= net.need as i128 && length < repeater_tree::LISTING_LENGTH,
+            _ => answer.slack as i128 == best && best >= net.need as i128,
+        };
+        if !holds {
+            let what = format!("library {answer:?}\nbut the Kraft maximum is {best}");
+            self.disagree(&what, &[("net", text)]);
+        }
+    }
+
+    fn compare_plan(&mut self, who: &str, net: &[u8], got: (Answer, &[u8]), want: (Answer, &[u8])) {
+        if got == want {
+            return;
+        }
+        let different = got.1.iter().zip(want.1).position(|(a, b)| a != b);
+        let length = want.1.len() - GUARD;
+        let what = format!(
+            "plan with an output of {length} bytes\nlibrary {:?}\n{who} {:?}\n\
+             first different output byte: {different:?}",
+            got.0, want.0
+        );
+        self.disagree(&what, &[("net", net), ("library's output", got.1), (who, want.1)]);
+    }
+
+    pub fn judge(&mut self, net: &[u8], listing: &[u8]) -> Answer {
+        self.count();
+        let answer = library::judge(net, listing);
+        for (who, expected) in
+            [("slow", slow::judge(net, listing)), ("plain", plain::judge(net, listing))]
+        {
+            if answer != expected {
+                let what = format!("judge\nlibrary {answer:?}\n{who} {expected:?}");
+                self.disagree(&what, &[("net", net), ("listing", listing)]);
+            }
+        }
+        answer
+    }
+
+    /// A demand on the answers of one case, beyond their equality.
+    pub fn expect(&mut self, holds: bool, what: &str, net: &[u8], listing: &[u8]) {
+        if !holds {
+            self.disagree(what, &[("net", net), ("listing", listing)]);
+        }
+    }
+
+    pub fn count(&mut self) {
+        *self.counts.entry(self.kind).or_insert(0) += 1;
+    }
+
+    pub fn disagree(&mut self, what: &str, texts: &[(&str, &[u8])]) {
+        self.disagreements += 1;
+        if self.disagreements > MOST_PRINTED {
+            return;
+        }
+        println!("DISAGREEMENT --replay {}:{}\n{what}", self.kind, self.seed);
+        for (name, text) in texts {
+            println!("{name}, {} bytes: \"{}\"", text.len(), text.escape_ascii());
+        }
+        println!();
+    }
+}
+
+/// No listing has such bytes, so a byte that was written shows.
+fn fill(length: usize) -> Vec<u8> {
+    (0..length).map(|i| 128 + (i * 31 % 127) as u8).collect()
+}
