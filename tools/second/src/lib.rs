@@ -7,4 +7,5 @@ pub mod nets;
 pub mod programs;
 pub mod random;
 pub mod session;
+pub mod timing;
 pub mod trees;

@@ -78,31 +78,43 @@ fn end(r: &mut Random, low: i64, high: i64) -> i64 {
     }
 }
 
-/// Plans that are one long path: own slacks rising by c, or one urgent sink
-/// and one with time to spare that the tie splits again and again.
+/// Plans that are one long path, in either of two ways.
 pub fn path_like(r: &mut Random, n: usize) -> Net {
-    let mut net = common(r, n);
-    net.branch = r.between(1, 1000);
-    let step = net.branch;
-    let rising = r.once_in(2);
+    if r.once_in(2) {
+        rising(r, n)
+    } else {
+        spare(r, n)
+    }
+}
+
+/// Own slacks rising by exactly c, so that each sink splits the one before.
+pub fn rising(r: &mut Random, n: usize) -> Net {
     let mut rank: Vec<i64> = (0..n as i64).collect();
     if r.once_in(2) {
         shuffle(r, &mut rank);
     }
-    for (i, sink) in net.sinks.iter_mut().enumerate() {
-        let way = net.wire * net.root.distance(sink.at) as i64;
-        let own = if rising { step * rank[i] } else { spare(i, n, step) };
-        sink.arrival = (own + way).clamp(ARRIVAL.0, ARRIVAL.1);
-    }
-    net
+    let branch = r.between(1, 1000);
+    let own = rank.iter().map(|i| i * branch).collect();
+    with_own_slacks(r, branch, own)
 }
 
-fn spare(i: usize, n: usize, step: i64) -> i64 {
-    match i {
-        0 => step * (n as i64 + 1),
-        _ if i + 1 == n => 0,
-        _ => step * (n as i64 + 2),
+/// One urgent sink and sink 1 with time to spare, which the tie splits again
+/// and again.
+pub fn spare(r: &mut Random, n: usize) -> Net {
+    let branch = r.between(1, 1000);
+    let mut own = vec![branch * (n as i64 + 2); n];
+    own[n - 1] = 0;
+    own[0] = branch * (n as i64 + 1);
+    with_own_slacks(r, branch, own)
+}
+
+fn with_own_slacks(r: &mut Random, branch: i64, own: Vec<i64>) -> Net {
+    let mut net = common(r, own.len());
+    net.branch = branch;
+    for (sink, own) in net.sinks.iter_mut().zip(own) {
+        sink.arrival = own + net.wire * net.root.distance(sink.at) as i64;
     }
+    net
 }
 
 pub fn shuffle<T>(r: &mut Random, list: &mut [T]) {

@@ -12,10 +12,13 @@ const GUARD: usize = 64;
 /// Enough to see what is wrong without flooding the screen.
 const MOST_PRINTED: usize = 20;
 
+#[derive(Default)]
 pub struct Session {
     kind: &'static str,
     seed: u64,
     pub counts: BTreeMap<&'static str, u64>,
+    /// Answers by the refusal's number: of plan, of judge.
+    pub numbers: [[u64; 13]; 2],
     pub disagreements: usize,
 }
 
@@ -28,12 +31,6 @@ pub struct Planned {
 impl Planned {
     pub fn listing(&self) -> &[u8] {
         &self.out[..self.answer.last as usize]
-    }
-}
-
-impl Default for Session {
-    fn default() -> Session {
-        Session { kind: "", seed: 0, counts: BTreeMap::new(), disagreements: 0 }
     }
 }
 
@@ -53,16 +50,20 @@ impl Session {
         self.count();
         let mut out = fill(length + GUARD);
         let answer = library::plan(net, &mut out[..length]);
+        self.numbers[0][answer.number.min(12) as usize] += 1;
         let mut other = fill(length + GUARD);
         let expected = plain::plan(net, &mut other[..length]);
         self.compare_plan("plain", net, (answer, &out), (expected, &other));
         let read = Net::read(net);
-        if read.as_ref().is_err() || read.as_ref().is_ok_and(|n| n.sinks.len() <= slow::MOST_SINKS) {
-            let mut other = fill(length + GUARD);
-            let expected = slow::plan(net, &mut other[..length]);
-            self.compare_plan("slow", net, (answer, &out), (expected, &other));
-        } else if let Ok(read) = read {
-            self.compare_kraft(net, length, answer, &read);
+        match read {
+            Ok(read) if read.sinks.len() > slow::MOST_SINKS => {
+                self.compare_kraft(net, length, answer, &read)
+            }
+            _ => {
+                let mut other = fill(length + GUARD);
+                let expected = slow::plan(net, &mut other[..length]);
+                self.compare_plan("slow", net, (answer, &out), (expected, &other));
+            }
         }
         out.truncate(length);
         Planned { answer, out }
@@ -99,6 +100,7 @@ impl Session {
     pub fn judge(&mut self, net: &[u8], listing: &[u8]) -> Answer {
         self.count();
         let answer = library::judge(net, listing);
+        self.numbers[1][answer.number.min(12) as usize] += 1;
         for (who, expected) in
             [("slow", slow::judge(net, listing)), ("plain", plain::judge(net, listing))]
         {

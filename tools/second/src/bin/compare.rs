@@ -11,7 +11,7 @@ use std::path::PathBuf;
 use std::process::ExitCode;
 
 const SEED: u64 = 20_090_401;
-const ROUNDS: u64 = 1000;
+const ROUNDS: u64 = 1500;
 
 struct Asked {
     seed: u64,
@@ -86,6 +86,9 @@ fn main() -> ExitCode {
     };
     for (kind, count) in &s.counts {
         println!("{kind:>16} {count:>9}");
+    }
+    for (call, numbers) in ["plan", "judge"].iter().zip(&s.numbers) {
+        println!("{call} answers by number, 0 to 12: {numbers:?}");
     }
     println!("compared {} cases, {} disagreements", s.total(), s.disagreements);
     match ran {

@@ -6,9 +6,18 @@ use crate::random::Random;
 use crate::session::Session;
 use repeater_tree::{LISTING_LENGTH, NET_LENGTH};
 
-/// A net in the format and its plan's listing.
-fn texts(s: &mut Session, r: &mut Random, most: i64) -> (Vec<u8>, Vec<u8>) {
+/// A net in the format and its plan's listing; now and then a large one.
+fn texts_of_any_size(s: &mut Session, r: &mut Random) -> (Vec<u8>, Vec<u8>) {
+    let n = if r.once_in(50) { r.pick(&[200, 512]) } else { r.between(1, 8) as usize };
+    texts(s, r, n)
+}
+
+fn small_texts(s: &mut Session, r: &mut Random, most: i64) -> (Vec<u8>, Vec<u8>) {
     let n = r.between(1, most) as usize;
+    texts(s, r, n)
+}
+
+fn texts(s: &mut Session, r: &mut Random, n: usize) -> (Vec<u8>, Vec<u8>) {
     let net = nets::any(r, n).text();
     let listing = s.plan(&net, LISTING_LENGTH).listing().to_vec();
     (net, listing)
@@ -23,7 +32,7 @@ fn spoilt(r: &mut Random, text: &[u8]) -> Vec<u8> {
 }
 
 pub fn net(s: &mut Session, r: &mut Random) {
-    let (net, listing) = texts(s, r, 8);
+    let (net, listing) = texts_of_any_size(s, r);
     for _ in 0..20 {
         let other = spoilt(r, &net);
         let length = r.pick(&[0, 60, LISTING_LENGTH]);
@@ -33,7 +42,7 @@ pub fn net(s: &mut Session, r: &mut Random) {
 }
 
 pub fn listing(s: &mut Session, r: &mut Random) {
-    let (net, listing) = texts(s, r, 8);
+    let (net, listing) = texts_of_any_size(s, r);
     for _ in 0..20 {
         let other = spoilt(r, &listing);
         s.judge(&net, &other);
@@ -42,7 +51,7 @@ pub fn listing(s: &mut Session, r: &mut Random) {
 
 /// The net's faults go before the listing's.
 pub fn both(s: &mut Session, r: &mut Random) {
-    let (net, listing) = texts(s, r, 5);
+    let (net, listing) = texts_of_any_size(s, r);
     for _ in 0..10 {
         let (net, listing) = (spoilt(r, &net), spoilt(r, &listing));
         s.judge(&net, &listing);
@@ -53,7 +62,7 @@ pub fn both(s: &mut Session, r: &mut Random) {
 
 /// Both texts cut at every place, and the damages due for every text.
 pub fn cuts(s: &mut Session, r: &mut Random) {
-    let (net, listing) = texts(s, r, 6);
+    let (net, listing) = small_texts(s, r, 6);
     for end in 0..=net.len() {
         s.plan(&net[..end], LISTING_LENGTH);
         s.judge(&net[..end], &listing);
@@ -72,7 +81,7 @@ pub fn cuts(s: &mut Session, r: &mut Random) {
 
 /// Each number of both texts in each odd spelling and at each limit.
 pub fn numbers(s: &mut Session, r: &mut Random) {
-    let (net, listing) = texts(s, r, 4);
+    let (net, listing) = small_texts(s, r, 4);
     for other in each_number(&net) {
         s.plan(&other, LISTING_LENGTH);
         s.judge(&other, &listing);
@@ -95,7 +104,7 @@ fn each_number(text: &[u8]) -> Vec<Vec<u8>> {
 
 /// Texts exactly at their length limit, and one past it.
 pub fn lengths(s: &mut Session, r: &mut Random) {
-    let (net, listing) = texts(s, r, 6);
+    let (net, listing) = small_texts(s, r, 6);
     let spoilt_net = spoilt(r, &net);
     for length in [NET_LENGTH - 1, NET_LENGTH, NET_LENGTH + 1, LISTING_LENGTH, 3 * NET_LENGTH] {
         for other in damage::of_length(r, &net, length) {

@@ -1,0 +1,142 @@
+//! Times the library beside the plain implementation on the same inputs, both
+//! built for release: plan and judge by size and shape of net, then a million
+//! small nets, then the growth.
+
+use repeater_tree::{judge_figures, plan_figures, JudgeFigures, PlanFigures, LISTING_LENGTH};
+use second_reference::net::Net;
+use second_reference::plain;
+use second_tool::nets;
+use second_tool::random::Random;
+use second_tool::timing::{compare, Pair};
+use std::hint::black_box;
+use std::time::{Duration, Instant};
+
+type Make = fn(&mut Random, usize) -> Net;
+
+const SHAPES: [(&str, Make); 4] = [
+    ("common", nets::common),
+    ("tied", nets::tied),
+    ("path, rising", nets::rising),
+    ("path, spare", nets::spare),
+];
+const SIZES: [usize; 6] = [1, 5, 12, 50, 200, 512];
+/// Different nets of one shape and size.
+const NETS: usize = 16;
+
+fn library_plan(net: &[u8], out: &mut [u8]) {
+    let mut figures = PlanFigures::default();
+    plan_figures(black_box(net), out, &mut figures);
+    black_box(&figures);
+}
+
+fn plain_plan(net: &[u8], out: &mut [u8]) {
+    black_box(plain::plan(black_box(net), out));
+}
+
+fn texts(make: Make, n: usize) -> Vec<Vec<u8>> {
+    let mut r = Random::new(n as u64);
+    (0..NETS).map(|_| make(&mut r, n).text()).collect()
+}
+
+fn time_plan(make: Make, n: usize) -> Pair {
+    let nets = texts(make, n);
+    let mut one = vec![0; LISTING_LENGTH];
+    let mut two = vec![0; LISTING_LENGTH];
+    compare(
+        NETS,
+        || nets.iter().for_each(|net| library_plan(net, &mut one)),
+        || nets.iter().for_each(|net| plain_plan(net, &mut two)),
+    )
+}
+
+fn time_judge(make: Make, n: usize) -> Pair {
+    let cases: Vec<(Vec<u8>, Vec<u8>)> = texts(make, n)
+        .into_iter()
+        .map(|net| {
+            let mut out = vec![0; LISTING_LENGTH];
+            let bytes = plain::plan(&net, &mut out).last as usize;
+            (net, out[..bytes].to_vec())
+        })
+        .collect();
+    compare(
+        NETS,
+        || {
+            for (net, listing) in &cases {
+                let mut figures = JudgeFigures::default();
+                judge_figures(black_box(net), black_box(listing), &mut figures);
+                assert_eq!(black_box(&figures).number, 0);
+            }
+        },
+        || {
+            for (net, listing) in &cases {
+                let answer = plain::judge(black_box(net), black_box(listing));
+                assert_eq!(black_box(answer).number, 0);
+            }
+        },
+    )
+}
+
+/// One row per shape and size, in order.
+fn table(name: &str, time: fn(Make, usize) -> Pair) -> Vec<Vec<Pair>> {
+    println!("\n{name:<14} sinks   library, ns/call   plain, ns/call   library/plain");
+    let mut all = Vec::new();
+    for (shape, make) in SHAPES {
+        let mut row = Vec::new();
+        for n in SIZES {
+            let pair = time(make, n);
+            println!("{shape:<14} {n:>5} {:>18.0} {:>16.0} {:>15.2}", pair.library, pair.plain, pair.ratio());
+            row.push(pair);
+        }
+        all.push(row);
+    }
+    all
+}
+
+fn timed(nets: &[Vec<u8>], out: &mut [u8], plan: fn(&[u8], &mut [u8])) -> Duration {
+    let start = Instant::now();
+    for net in nets {
+        plan(net, out);
+    }
+    start.elapsed()
+}
+
+/// Different nets, made in chunks outside the timed stretches.
+fn million() {
+    const CHUNK: usize = 20_000;
+    let mut r = Random::new(12);
+    let mut out = vec![0; LISTING_LENGTH];
+    let (mut library, mut plain) = (Duration::ZERO, Duration::ZERO);
+    for _ in 0..1_000_000 / CHUNK {
+        let nets: Vec<Vec<u8>> = (0..CHUNK).map(|_| nets::common(&mut r, 12).text()).collect();
+        library += timed(&nets, &mut out, library_plan);
+        plain += timed(&nets, &mut out, plain_plan);
+    }
+    let rate = |time: Duration| 1_000_000.0 / time.as_secs_f64();
+    println!("\na million different nets of 12 sinks, plans per second:");
+    println!("library {:.0}, plain {:.0}, ratio of rates {:.2}", rate(library), rate(plain), rate(library) / rate(plain));
+}
+
+fn growth(name: &str, rows: &[Vec<Pair>]) {
+    let square = (512.0f64 / 200.0).powi(2);
+    println!("\n{name}: time at 512 sinks over time at 200; the square of 512/200 is {square:.2}");
+    for ((shape, _), row) in SHAPES.iter().zip(rows) {
+        let (small, large) = (row[4], row[5]);
+        println!("{shape:<14} library {:.2}, plain {:.2}", large.library / small.library, large.plain / small.plain);
+    }
+    let worst = |time: fn(&Pair) -> f64| {
+        rows.iter().map(|row| time(&row[5])).fold(0.0, f64::max) / time(&rows[0][5])
+    };
+    println!(
+        "worst of the 512-sink shapes over the common one: library {:.2}, plain {:.2}",
+        worst(|p| p.library),
+        worst(|p| p.plain)
+    );
+}
+
+fn main() {
+    let plans = table("plan", time_plan);
+    let judged = table("judge", time_judge);
+    million();
+    growth("plan", &plans);
+    growth("judge", &judged);
+}
