@@ -10,10 +10,10 @@ pub fn maximum(net: &Net) -> i128 {
 
 pub fn maximum_of(own: &[i128], c: i128) -> i128 {
     let least = *own.iter().min().expect("a net has a sink");
-    // With s this low each floor is at least n, and n * 2^-n is below 1. Above
-    // the least own slack a floor is negative. In between the sum only grows.
+    // At `low` each floor is at least n, and n * 2^-n is at most 1. At `high` a
+    // floor is -1. In between the sum only grows with s.
     let mut low = least - c * own.len() as i128;
-    let mut high = least;
+    let mut high = least + c;
     while low < high {
         let middle = high - (high - low).div_euclid(2);
         if at_most_one(own, c, middle) {

@@ -9,16 +9,18 @@ pub struct Grown {
     pub worst: i64,
 }
 
+/// Below every slack, with room to subtract.
+const ABSENT: i64 = i64::MIN / 2;
+
 struct Growing {
     c: i64,
     parent: Vec<usize>,
     children: Vec<[usize; 2]>,
     /// Branch points above the vertex.
     depth: Vec<i64>,
-    /// Least slack of the sinks at or below the vertex.
+    /// Least slack of the sinks at or below the vertex; `ABSENT` before it is
+    /// inserted.
     least: Vec<i64>,
-    /// The lower ends of all edges, unordered.
-    ends: Vec<usize>,
 }
 
 pub fn grow(net: &Net) -> Grown {
@@ -33,14 +35,12 @@ pub fn grow(net: &Net) -> Grown {
         parent: vec![0; 2 * n],
         children: vec![[0; 2]; 2 * n],
         depth: vec![0; 2 * n],
-        least: vec![0; 2 * n],
-        ends: Vec::with_capacity(2 * n),
+        least: vec![ABSENT; 2 * n],
     };
     g.least[order[0]] = own[order[0]];
-    g.ends.push(order[0]);
     let mut worst = own[order[0]];
     for (i, &sink) in order.iter().enumerate().skip(1) {
-        let (after, v) = g.best_end(worst, own[sink]);
+        let (after, v) = g.best_end(n + i, worst, own[sink]);
         worst = after;
         g.split(v, n + i, sink, own[sink]);
     }
@@ -49,14 +49,17 @@ pub fn grow(net: &Net) -> Grown {
 
 impl Growing {
     /// The largest worst slack after inserting a sink of this own slack, and
-    /// the lower end of the edge to split for it.
-    fn best_end(&self, worst: i64, own: i64) -> (i64, usize) {
+    /// the lowest lower end of an edge to split for it, below `new`. No edge
+    /// raises the worst slack, so the first that keeps it is taken.
+    fn best_end(&self, new: usize, worst: i64, own: i64) -> (i64, usize) {
         let mut best = (i64::MIN, 0);
-        for &v in &self.ends {
-            let sink = own - self.c * (self.depth[v] + 1);
-            let after = worst.min(self.least[v] - self.c).min(sink);
-            if after > best.0 || (after == best.0 && v < best.1) {
+        for (v, (&least, &depth)) in self.least.iter().zip(&self.depth).enumerate().take(new).skip(1) {
+            let after = worst.min(least - self.c).min(own - self.c * (depth + 1));
+            if after > best.0 {
                 best = (after, v);
+                if after == worst {
+                    break;
+                }
             }
         }
         best
@@ -77,8 +80,6 @@ impl Growing {
         self.parent[sink] = new;
         self.depth[sink] = self.depth[new] + 1;
         self.least[sink] = own - self.c * self.depth[sink];
-        self.ends.push(sink);
-        self.ends.push(new);
         self.raise(new);
     }
 
