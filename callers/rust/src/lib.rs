@@ -56,7 +56,11 @@ pub fn plan(net: &[u8], out: &mut [u8]) -> Result<Plan, Refusal> {
     let mut f = PlanFigures::default();
     plan_figures(net, out, &mut f);
     Refusal::check(f.number, f.text, f.line)?;
-    Ok(Plan { slack: f.slack, wire: f.wire, bytes: f.bytes })
+    Ok(Plan {
+        slack: f.slack,
+        wire: f.wire,
+        bytes: f.bytes,
+    })
 }
 
 /// Measures the listed tree over its net, if the listing is legal and what it
@@ -65,5 +69,9 @@ pub fn judge(net: &[u8], listing: &[u8]) -> Result<Measures, Refusal> {
     let mut f = JudgeFigures::default();
     judge_figures(net, listing, &mut f);
     Refusal::check(f.number, f.text, f.line)?;
-    Ok(Measures { slack: f.slack, wire: f.wire, best: f.best })
+    Ok(Measures {
+        slack: f.slack,
+        wire: f.wire,
+        best: f.best,
+    })
 }

@@ -23,14 +23,17 @@ pub fn replaced(text: &[u8], at: Range<usize>, by: &[u8]) -> Vec<u8> {
     [&text[..at.start], by, &text[at.end..]].concat()
 }
 
+/// Words that are no number, or one out of most ranges; blanks in between.
+const ODD_WORDS: &[u8] = b"- + 0 00 -0 -00 01 -01 +1 -1 --1 1- 1.0 1e3 0x1 1_0 1,1 x / : 1: 1/ \
+\xb2 \xef\xbc\x91 1\0 1\r \t1";
+
 /// Spellings that are wrong, or right and out of every range.
 pub fn odd_spellings(value: &[u8]) -> Vec<Vec<u8>> {
-    let fixed: &[&[u8]] = &[
-        b"", b"-", b"+", b"0", b"00", b"-0", b"-00", b"01", b"-01", b"+1", b"-1", b"--1", b"1-", b"1 ",
-        b" 1", b"\t1", b"1\0", b"1.0", b"1e3", b"0x1", b"1_0", b"1,1", b"\xb2", b"\xef\xbc\x91", b"x",
-        b"1\r", b"/", b":", b"1:", b"1/",
-    ];
-    let mut all: Vec<Vec<u8>> = fixed.iter().map(|s| s.to_vec()).collect();
+    let mut all: Vec<Vec<u8>> = ODD_WORDS
+        .split(|&b| b == b' ')
+        .map(|s| s.to_vec())
+        .collect();
+    all.extend([&b""[..], b" 1", b"1 "].map(|s| s.to_vec()));
     all.push([b"0", value].concat());
     all.push([b"+", value].concat());
     all.push([b"-", value].concat());
@@ -45,7 +48,10 @@ pub fn odd_spellings(value: &[u8]) -> Vec<Vec<u8>> {
 
 /// Numbers equal to this one modulo the sizes of machine words.
 pub fn congruent(value: &[u8]) -> Vec<Vec<u8>> {
-    let value = std::str::from_utf8(value).ok().and_then(|v| v.parse::<i128>().ok()).unwrap_or(1);
+    let value = std::str::from_utf8(value)
+        .ok()
+        .and_then(|v| v.parse::<i128>().ok())
+        .unwrap_or(1);
     [8, 16, 31, 32, 53, 63, 64]
         .iter()
         .flat_map(|&bits| [value + (1i128 << bits), value - (1i128 << bits)])
@@ -114,7 +120,10 @@ fn number_damaged(r: &mut Random, text: &[u8]) -> Vec<u8> {
 }
 
 fn lines_damaged(r: &mut Random, text: &[u8]) -> Vec<u8> {
-    let mut lines: Vec<Vec<u8>> = text.split_inclusive(|&b| b == b'\n').map(|l| l.to_vec()).collect();
+    let mut lines: Vec<Vec<u8>> = text
+        .split_inclusive(|&b| b == b'\n')
+        .map(|l| l.to_vec())
+        .collect();
     let (i, j) = (r.index(lines.len()), r.index(lines.len()));
     match r.index(7) {
         0 => lines.swap(i, j),
@@ -133,9 +142,24 @@ fn lines_damaged(r: &mut Random, text: &[u8]) -> Vec<u8> {
 
 /// Damages of the whole text that are due for every text.
 pub fn whole(text: &[u8]) -> Vec<Vec<u8>> {
-    let crlf = String::from_utf8_lossy(text).replace('\n', "\r\n").into_bytes();
-    let mut all = vec![crlf, text[..text.len() - 1].to_vec(), Vec::new(), b"\n".to_vec()];
-    for tail in [&b"\n"[..], b" ", b"\0", b"sink=0,0,0\n", b"x", b"leaf=1,0\n", b"\n\n"] {
+    let crlf = String::from_utf8_lossy(text)
+        .replace('\n', "\r\n")
+        .into_bytes();
+    let mut all = vec![
+        crlf,
+        text[..text.len() - 1].to_vec(),
+        Vec::new(),
+        b"\n".to_vec(),
+    ];
+    for tail in [
+        &b"\n"[..],
+        b" ",
+        b"\0",
+        b"sink=0,0,0\n",
+        b"x",
+        b"leaf=1,0\n",
+        b"\n\n",
+    ] {
         all.push([text, tail].concat());
     }
     for head in [&b"\n"[..], b" ", b"\xef\xbb\xbf", b"#\n"] {

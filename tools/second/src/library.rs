@@ -6,8 +6,14 @@ use second_reference::answer::Answer;
 /// The figures are preset, so that one which the library leaves unwritten
 /// shows.
 pub fn plan(net: &[u8], out: &mut [u8]) -> Answer {
-    let mut f =
-        PlanFigures { number: 99, text: 99, line: 99, slack: -99, wire: 99, bytes: 99_999 };
+    let mut f = PlanFigures {
+        number: 99,
+        text: 99,
+        line: 99,
+        slack: -99,
+        wire: 99,
+        bytes: 99_999,
+    };
     plan_figures(net, out, &mut f);
     Answer {
         number: f.number,
@@ -20,7 +26,14 @@ pub fn plan(net: &[u8], out: &mut [u8]) -> Answer {
 }
 
 pub fn judge(net: &[u8], listing: &[u8]) -> Answer {
-    let mut f = JudgeFigures { number: 99, text: 99, line: 99, slack: -99, wire: 99, best: -99 };
+    let mut f = JudgeFigures {
+        number: 99,
+        text: 99,
+        line: 99,
+        slack: -99,
+        wire: 99,
+        best: -99,
+    };
     judge_figures(net, listing, &mut f);
     Answer {
         number: f.number,

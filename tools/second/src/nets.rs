@@ -17,9 +17,18 @@ pub fn common(r: &mut Random, n: usize) -> Net {
     let wire = r.between(1, 400);
     let late = 2 * spread * wire;
     let sinks = (0..n)
-        .map(|_| Sink { at: point(r, spread), arrival: r.between(-late, 3 * late) })
+        .map(|_| Sink {
+            at: point(r, spread),
+            arrival: r.between(-late, 3 * late),
+        })
         .collect();
-    Net { root: point(r, spread), branch: r.between(1, 50_000), wire, need: LOW_NEED, sinks }
+    Net {
+        root: point(r, spread),
+        branch: r.between(1, 50_000),
+        wire,
+        need: LOW_NEED,
+        sinks,
+    }
 }
 
 /// Few different own slacks, from different points and arrivals.
@@ -33,10 +42,19 @@ pub fn tied(r: &mut Random, n: usize) -> Net {
         .map(|_| {
             let at = point(r, spread);
             let own = branch * r.between(0, kinds);
-            Sink { at, arrival: own + wire * root.distance(at) as i64 }
+            Sink {
+                at,
+                arrival: own + wire * root.distance(at) as i64,
+            }
         })
         .collect();
-    Net { root, branch, wire, need: LOW_NEED, sinks }
+    Net {
+        root,
+        branch,
+        wire,
+        need: LOW_NEED,
+        sinks,
+    }
 }
 
 /// Pins on a few spots, the root's own among them.
@@ -55,17 +73,29 @@ pub fn coincident(r: &mut Random, n: usize) -> Net {
 
 /// Each number at an end of its range, next to it, or anywhere in it.
 pub fn extreme(r: &mut Random, n: usize) -> Net {
-    let root = Point::new(end(r, -COORDINATE, COORDINATE), end(r, -COORDINATE, COORDINATE));
+    let root = Point::new(
+        end(r, -COORDINATE, COORDINATE),
+        end(r, -COORDINATE, COORDINATE),
+    );
     let branch = end(r, BRANCH.0, BRANCH.1);
     let wire = end(r, WIRE.0, WIRE.1);
     let sinks = (0..n).map(|_| extreme_sink(r)).collect();
-    Net { root, branch, wire, need: LOW_NEED, sinks }
+    Net {
+        root,
+        branch,
+        wire,
+        need: LOW_NEED,
+        sinks,
+    }
 }
 
 fn extreme_sink(r: &mut Random) -> Sink {
     let x = end(r, -COORDINATE, COORDINATE);
     let y = end(r, -COORDINATE, COORDINATE);
-    Sink { at: Point::new(x, y), arrival: end(r, ARRIVAL.0, ARRIVAL.1) }
+    Sink {
+        at: Point::new(x, y),
+        arrival: end(r, ARRIVAL.0, ARRIVAL.1),
+    }
 }
 
 fn end(r: &mut Random, low: i64, high: i64) -> i64 {

@@ -27,14 +27,23 @@ pub fn compare(s: &mut Session, programs: &Path, work: &Path, seed: u64) -> Resu
         s.count();
         let printed = run_judge(&programs, work, &net, &listing)?;
         let expected = expected_judge(&net, &listing);
-        report(s, &printed, &expected, &[("net", &net), ("listing", &listing)]);
+        report(
+            s,
+            &printed,
+            &expected,
+            &[("net", &net), ("listing", &listing)],
+        );
     }
     Ok(())
 }
 
 /// Good texts, reachable or not, and each kind of damage in turn.
 fn texts(r: &mut Random, i: u64) -> (Vec<u8>, Vec<u8>) {
-    let n = if i == 0 { 512 } else { r.between(1, 30) as usize };
+    let n = if i == 0 {
+        512
+    } else {
+        r.between(1, 30) as usize
+    };
     let mut good = nets::any(r, n);
     let mut out = vec![0; LISTING_LENGTH];
     let bytes = plain::plan(&good.text(), &mut out).last as usize;
@@ -49,7 +58,10 @@ fn texts(r: &mut Random, i: u64) -> (Vec<u8>, Vec<u8>) {
         3 => {
             let over = r.pick(&[0, 1]);
             let long = damage::of_length(r, &net, NET_LENGTH + over).swap_remove(0);
-            (long, damage::of_length(r, &out, LISTING_LENGTH + over).swap_remove(1))
+            (
+                long,
+                damage::of_length(r, &out, LISTING_LENGTH + over).swap_remove(1),
+            )
         }
         4 if i % 2 == 0 => {
             let long = damage::of_length(r, &out, LISTING_LENGTH + 1).swap_remove(0);
@@ -67,7 +79,11 @@ fn expected_plan(net: &[u8]) -> Vec<u8> {
     let mut out = vec![0; LISTING_LENGTH];
     let answer = plain::plan(net, &mut out);
     out.truncate(answer.last as usize);
-    if answer.number == 0 { out } else { refused(answer) }
+    if answer.number == 0 {
+        out
+    } else {
+        refused(answer)
+    }
 }
 
 fn expected_judge(net: &[u8], listing: &[u8]) -> Vec<u8> {
@@ -87,7 +103,10 @@ fn run_plan(programs: &Path, net: &[u8]) -> Result<Vec<u8>> {
     // In two pieces, as a pipe may deliver it. A program may stop reading at
     // the length limit, so a broken pipe is no fault.
     let (front, back) = net.split_at(net.len() / 2);
-    let _ = input.write_all(front).and_then(|()| input.flush()).and_then(|()| input.write_all(back));
+    let _ = input
+        .write_all(front)
+        .and_then(|()| input.flush())
+        .and_then(|()| input.write_all(back));
     drop(input);
     Ok(child.wait_with_output()?.stdout)
 }
@@ -95,7 +114,10 @@ fn run_plan(programs: &Path, net: &[u8]) -> Result<Vec<u8>> {
 fn run_judge(programs: &Path, work: &Path, net: &[u8], listing: &[u8]) -> Result<Vec<u8>> {
     std::fs::write(work.join("net.txt"), net)?;
     std::fs::write(work.join("tree.txt"), listing)?;
-    Ok(Command::new(programs.join("judge")).current_dir(work).output()?.stdout)
+    Ok(Command::new(programs.join("judge"))
+        .current_dir(work)
+        .output()?
+        .stdout)
 }
 
 fn report(s: &mut Session, printed: &[u8], expected: &[u8], texts: &[(&str, &[u8])]) {

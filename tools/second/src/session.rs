@@ -94,16 +94,29 @@ impl Session {
              first different output byte: {different:?}",
             got.0, want.0
         );
-        self.disagree(&what, &[("net", net), ("library's output", got.1), (who, want.1)]);
+        // The filling beyond the listings would only hide them.
+        let written = got.0.last.max(want.0.last) as usize;
+        let shown = written
+            .max(different.map_or(0, |at| at + 1))
+            .min(length + GUARD);
+        self.disagree(
+            &what,
+            &[
+                ("net", net),
+                ("library's output", &got.1[..shown]),
+                (who, &want.1[..shown]),
+            ],
+        );
     }
 
     pub fn judge(&mut self, net: &[u8], listing: &[u8]) -> Answer {
         self.count();
         let answer = library::judge(net, listing);
         self.numbers[1][answer.number.min(12) as usize] += 1;
-        for (who, expected) in
-            [("slow", slow::judge(net, listing)), ("plain", plain::judge(net, listing))]
-        {
+        for (who, expected) in [
+            ("slow", slow::judge(net, listing)),
+            ("plain", plain::judge(net, listing)),
+        ] {
             if answer != expected {
                 let what = format!("judge\nlibrary {answer:?}\n{who} {expected:?}");
                 self.disagree(&what, &[("net", net), ("listing", listing)]);
@@ -112,10 +125,11 @@ impl Session {
         answer
     }
 
-    /// A demand on the answers of one case, beyond their equality.
-    pub fn expect(&mut self, holds: bool, what: &str, net: &[u8], listing: &[u8]) {
+    /// A demand on the library's answer, beyond its equality with others.
+    pub fn expect(&mut self, holds: bool, what: &str, answer: Answer, net: &[u8], listing: &[u8]) {
         if !holds {
-            self.disagree(what, &[("net", net), ("listing", listing)]);
+            let what = format!("{what}\nlibrary {answer:?}");
+            self.disagree(&what, &[("net", net), ("listing", listing)]);
         }
     }
 

@@ -30,7 +30,10 @@ pub fn compare(calls: usize, mut library: impl FnMut(), mut plain: impl FnMut())
         one.push(stretch(library_repeats, &mut library) / (library_repeats * calls) as f64);
         two.push(stretch(plain_repeats, &mut plain) / (plain_repeats * calls) as f64);
     }
-    Pair { library: median(one), plain: median(two) }
+    Pair {
+        library: median(one),
+        plain: median(two),
+    }
 }
 
 fn stretch(repeats: usize, work: &mut impl FnMut()) -> f64 {

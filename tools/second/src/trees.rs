@@ -13,7 +13,11 @@ pub fn random_parents(r: &mut Random, n: usize) -> Vec<usize> {
     let mut tops: Vec<usize> = (1..=n).collect();
     let path = r.once_in(3);
     for new in numbers {
-        let first = if path { tops.len() - 1 } else { r.index(tops.len()) };
+        let first = if path {
+            tops.len() - 1
+        } else {
+            r.index(tops.len())
+        };
         let first = tops.swap_remove(first);
         let second = r.index(tops.len());
         let second = tops.swap_remove(second);

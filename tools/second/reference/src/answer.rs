@@ -23,11 +23,25 @@ pub struct Answer {
 
 impl Answer {
     pub fn refused(r: Refusal) -> Answer {
-        Answer { number: r.number, text: r.text, line: r.line, slack: 0, wire: 0, last: 0 }
+        Answer {
+            number: r.number,
+            text: r.text,
+            line: r.line,
+            slack: 0,
+            wire: 0,
+            last: 0,
+        }
     }
 
     pub fn done(slack: i64, wire: u64, last: i64) -> Answer {
-        Answer { number: 0, text: 0, line: 0, slack, wire, last }
+        Answer {
+            number: 0,
+            text: 0,
+            line: 0,
+            slack,
+            wire,
+            last,
+        }
     }
 
     pub fn of(result: Result<(i64, u64, i64), Refusal>) -> Answer {

@@ -32,7 +32,11 @@ pub fn at_most_one(own: &[i128], c: i128, s: i128) -> bool {
     }
     let holds = carried_to_one(&floors);
     if let Some(direct) = whole_sum(&floors) {
-        assert_eq!(holds, direct.0 <= direct.1, "two sums of the same powers differ");
+        assert_eq!(
+            holds,
+            direct.0 <= direct.1,
+            "two sums of the same powers differ"
+        );
     }
     holds
 }

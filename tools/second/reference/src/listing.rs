@@ -28,7 +28,10 @@ impl Listing {
             return Err(lines.refuse(7));
         }
         lines.step();
-        let mut tree = Tree { parent: vec![0], point: vec![net.root] };
+        let mut tree = Tree {
+            parent: vec![0],
+            point: vec![net.root],
+        };
         for k in 1..2 * n {
             read_vertex(&mut lines, net, k, &mut tree)?;
         }
@@ -59,7 +62,11 @@ fn read_one(lines: &mut Lines, key: &str, range: (i64, i64)) -> Result<i64, Refu
 
 fn read_vertex(lines: &mut Lines, net: &Net, k: usize, tree: &mut Tree) -> Result<(), Refusal> {
     let n = net.sinks.len();
-    let numbers = if k <= n { lines.due("leaf=", 2)? } else { lines.due("node=", 4)? };
+    let numbers = if k <= n {
+        lines.due("leaf=", 2)?
+    } else {
+        lines.due("node=", 4)?
+    };
     // Spelling is canonical, so another spelling is another number.
     if numbers[0] != k.to_string().as_bytes() {
         return Err(lines.refuse(2));

@@ -22,7 +22,11 @@ fn plan(net: &str) -> (Answer, String) {
     let mut other = vec![b'?'; 30_000];
     assert_eq!(answer, plain::plan(net.as_bytes(), &mut other));
     assert_eq!(out, other);
-    let written = if answer.number == 0 { answer.last as usize } else { 0 };
+    let written = if answer.number == 0 {
+        answer.last as usize
+    } else {
+        0
+    };
     assert!(out[written..].iter().all(|&b| b == b'?'));
     (answer, String::from_utf8(out[..written].to_vec()).unwrap())
 }
@@ -50,7 +54,10 @@ fn judge_parents(parents: [usize; 5]) -> (u8, u8, usize) {
 
 #[test]
 fn net_a() {
-    assert_eq!(Net::read(a("0").as_bytes()).unwrap().own_slacks(), [80, 40, 30]);
+    assert_eq!(
+        Net::read(a("0").as_bytes()).unwrap().own_slacks(),
+        [80, 40, 30]
+    );
     let (answer, text) = plan(&a("0"));
     assert_eq!(answer, Answer::done(0, 32, A_LISTING.len() as i64));
     assert_eq!(text, A_LISTING);
@@ -60,7 +67,10 @@ fn net_a() {
 
 #[test]
 fn three_sinks_at_the_root() {
-    let net = format!("root=0,0\nbranch=20\nwire=2\nneed=-40\nsinks=3\n{}", "sink=0,0,0\n".repeat(3));
+    let net = format!(
+        "root=0,0\nbranch=20\nwire=2\nneed=-40\nsinks=3\n{}",
+        "sink=0,0,0\n".repeat(3)
+    );
     let (answer, text) = plan(&net);
     assert_eq!((answer.slack, answer.wire), (-40, 0));
     assert!(text.ends_with("leaf=1,5\nleaf=2,4\nleaf=3,5\nnode=4,0,0,0\nnode=5,4,0,0\n"));
@@ -96,11 +106,25 @@ fn listings_of_a() {
 #[test]
 fn refused_nets() {
     assert_eq!(refused_plan(""), (2, 1, 1));
-    assert_eq!(refused_plan(&a("0").replace("branch=20", "branch=0")), (3, 1, 2));
+    assert_eq!(
+        refused_plan(&a("0").replace("branch=20", "branch=0")),
+        (3, 1, 2)
+    );
     assert_eq!(refused_plan(&a("-0")), (2, 1, 4));
-    assert_eq!(refused_plan(&a("0").replace("sinks=3", "sinks=513")), (3, 1, 5));
-    assert_eq!(plan(&a("-2000000000000").replace("=10,0", "=100000,0")).0.number, 0);
-    assert_eq!(refused_plan(&a("0").replace("=10,0", "=100001,0")), (3, 1, 6));
+    assert_eq!(
+        refused_plan(&a("0").replace("sinks=3", "sinks=513")),
+        (3, 1, 5)
+    );
+    assert_eq!(
+        plan(&a("-2000000000000").replace("=10,0", "=100000,0"))
+            .0
+            .number,
+        0
+    );
+    assert_eq!(
+        refused_plan(&a("0").replace("=10,0", "=100001,0")),
+        (3, 1, 6)
+    );
 }
 
 #[test]

@@ -43,12 +43,21 @@ impl Net {
             sinks.push(read_sink(&mut lines)?);
         }
         lines.finish()?;
-        Ok(Net { root, branch, wire, need, sinks })
+        Ok(Net {
+            root,
+            branch,
+            wire,
+            need,
+            sinks,
+        })
     }
 
     pub fn text(&self) -> Vec<u8> {
         let mut text = format!("root={},{}\n", self.root.x, self.root.y);
-        text += &format!("branch={}\nwire={}\nneed={}\n", self.branch, self.wire, self.need);
+        text += &format!(
+            "branch={}\nwire={}\nneed={}\n",
+            self.branch, self.wire, self.need
+        );
         text += &format!("sinks={}\n", self.sinks.len());
         for sink in &self.sinks {
             text += &format!("sink={},{},{}\n", sink.at.x, sink.at.y, sink.arrival);
@@ -88,5 +97,8 @@ fn read_sink(lines: &mut Lines) -> Result<Sink, Refusal> {
     let y = lines.value(numbers[1], -COORDINATE, COORDINATE)?;
     let arrival = lines.value(numbers[2], ARRIVAL.0, ARRIVAL.1)?;
     lines.step();
-    Ok(Sink { at: Point::new(x, y), arrival })
+    Ok(Sink {
+        at: Point::new(x, y),
+        arrival,
+    })
 }

@@ -21,10 +21,19 @@ fn random_net(r: &mut Random, spread: i64) -> Net {
     let n = 1 + r.below(14);
     let root = point(r);
     let sinks = (0..n)
-        .map(|_| Sink { at: point(r), arrival: r.below(20 * spread) - 5 * spread })
+        .map(|_| Sink {
+            at: point(r),
+            arrival: r.below(20 * spread) - 5 * spread,
+        })
         .collect();
     let (branch, wire) = (1 + r.below(spread), 1 + r.below(4));
-    Net { root, branch, wire, need: -2_000_000_000_000, sinks }
+    Net {
+        root,
+        branch,
+        wire,
+        need: -2_000_000_000_000,
+        sinks,
+    }
 }
 
 #[test]
@@ -42,7 +51,10 @@ fn slow_and_plain_agree() {
         assert_eq!(answer.slack as i128, kraft::maximum(&net));
         let listing = &one[..answer.last as usize];
         let judged = slow::judge(&text, listing);
-        assert_eq!((judged.slack, judged.wire, judged.last), (answer.slack, answer.wire, answer.slack));
+        assert_eq!(
+            (judged.slack, judged.wire, judged.last),
+            (answer.slack, answer.wire, answer.slack)
+        );
         assert_eq!(judged, plain::judge(&text, listing));
     }
 }
@@ -54,7 +66,10 @@ fn kraft_maximum_by_trying_every_value() {
         let n = 1 + r.below(9);
         let c = 1 + r.below(7) as i128;
         let own: Vec<i128> = (0..n).map(|_| r.below(60) as i128 - 30).collect();
-        let largest = (-200..60).rev().find(|&s| kraft::at_most_one(&own, c, s)).unwrap();
+        let largest = (-200..60)
+            .rev()
+            .find(|&s| kraft::at_most_one(&own, c, s))
+            .unwrap();
         assert_eq!(kraft::maximum_of(&own, c), largest);
     }
 }

@@ -16,12 +16,20 @@ pub fn plan(net: &[u8], out: &mut [u8]) -> Answer {
 fn try_plan(net: &[u8], out: &mut [u8]) -> Result<(i64, u64, i64), Refusal> {
     let net = Net::read(net)?;
     if kraft::maximum(&net) < net.need as i128 {
-        return Err(Refusal { number: 5, text: 1, line: 4 });
+        return Err(Refusal {
+            number: 5,
+            text: 1,
+            line: 4,
+        });
     }
     let listing = listing_of(&net, planned(&net));
     let text = listing.text();
     if out.len() < text.len() {
-        return Err(Refusal { number: 6, text: 0, line: 0 });
+        return Err(Refusal {
+            number: 6,
+            text: 0,
+            line: 0,
+        });
     }
     out[..text.len()].copy_from_slice(&text);
     Ok((listing.slack, listing.wire as u64, text.len() as i64))
@@ -30,7 +38,11 @@ fn try_plan(net: &[u8], out: &mut [u8]) -> Result<(i64, u64, i64), Refusal> {
 /// The tree with its true measures stated.
 pub fn listing_of(net: &Net, tree: Tree) -> Listing {
     let slack = worst_slack(net, &tree) as i64;
-    Listing { slack, wire: wire(&tree) as i64, tree }
+    Listing {
+        slack,
+        wire: wire(&tree) as i64,
+        tree,
+    }
 }
 
 /// The first plan's tree, settled.
@@ -55,7 +67,10 @@ fn unsettled(net: &Net) -> Tree {
     let mut point: Vec<Point> = vec![net.root];
     point.extend(net.sinks.iter().map(|s| s.at));
     point.resize(2 * n, net.root);
-    Tree { parent: vec![0; 2 * n], point }
+    Tree {
+        parent: vec![0; 2 * n],
+        point,
+    }
 }
 
 /// The best tree that the last sink of `inserted` can make with branch point
@@ -72,7 +87,11 @@ fn enlarged(net: &Net, tree: &Tree, inserted: &[usize], new: usize) -> Tree {
         candidate.parent[new] = tree.parent[v];
         candidate.parent[v] = new;
         candidate.parent[sink] = new;
-        let worst = inserted.iter().map(|&k| slack(net, &candidate, k)).min().expect("not empty");
+        let worst = inserted
+            .iter()
+            .map(|&k| slack(net, &candidate, k))
+            .min()
+            .expect("not empty");
         if best.as_ref().is_none_or(|b| worst > b.0) {
             best = Some((worst, candidate));
         }
@@ -100,7 +119,9 @@ fn check_depths(tree: &Tree, inserted: &[usize]) {
 fn settle(tree: &mut Tree, n: usize) {
     let root = tree.point[0];
     let mut settled: Vec<bool> = (0..2 * n).map(|v| v <= n).collect();
-    while let Some(v) = (n + 1..2 * n).find(|&v| !settled[v] && children(tree, v).all(|k| settled[k])) {
+    while let Some(v) =
+        (n + 1..2 * n).find(|&v| !settled[v] && children(tree, v).all(|k| settled[k]))
+    {
         let mut below = children(tree, v).map(|k| tree.point[k]);
         let (first, second) = (below.next().expect("two"), below.next().expect("two"));
         drop(below);
@@ -120,7 +141,13 @@ pub fn judge(net: &[u8], listing: &[u8]) -> Answer {
 fn try_judge(net: &[u8], listing: &[u8]) -> Result<(i64, u64, i64), Refusal> {
     let net = Net::read(net)?;
     let listing = Listing::read(listing, &net)?;
-    let refuse = |number, line| Err(Refusal { number, text: 2, line });
+    let refuse = |number, line| {
+        Err(Refusal {
+            number,
+            text: 2,
+            line,
+        })
+    };
     match fault(net.sinks.len(), &listing.tree.parent) {
         Some(Fault::SinkParent(v)) => return refuse(8, v + 3),
         Some(Fault::RootChildren) => return refuse(9, 0),
@@ -134,5 +161,9 @@ fn try_judge(net: &[u8], listing: &[u8]) -> Result<(i64, u64, i64), Refusal> {
     if wire(&listing.tree) != listing.wire as i128 {
         return refuse(12, 2);
     }
-    Ok((listing.slack, listing.wire as u64, kraft::maximum(&net) as i64))
+    Ok((
+        listing.slack,
+        listing.wire as u64,
+        kraft::maximum(&net) as i64,
+    ))
 }

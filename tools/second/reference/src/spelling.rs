@@ -12,20 +12,38 @@ pub struct Lines<'a> {
 impl<'a> Lines<'a> {
     pub fn new(bytes: &'a [u8], text: u8, limit: usize) -> Result<Lines<'a>, Refusal> {
         if bytes.len() > limit {
-            return Err(Refusal { number: 1, text, line: 0 });
+            return Err(Refusal {
+                number: 1,
+                text,
+                line: 0,
+            });
         }
-        Ok(Lines { rest: bytes, text, line: 1 })
+        Ok(Lines {
+            rest: bytes,
+            text,
+            line: 1,
+        })
     }
 
     pub fn refuse(&self, number: u8) -> Refusal {
-        Refusal { number, text: self.text, line: self.line }
+        Refusal {
+            number,
+            text: self.text,
+            line: self.line,
+        }
     }
 
     /// The due line's numbers as spelt, if it is `key` and `count` numbers
     /// between commas and ends with its end byte. Does not step on.
     pub fn due(&self, key: &str, count: usize) -> Result<Vec<&'a [u8]>, Refusal> {
-        let end = self.rest.iter().position(|&b| b == 10).ok_or(self.refuse(2))?;
-        let numbers = self.rest[..end].strip_prefix(key.as_bytes()).ok_or(self.refuse(2))?;
+        let end = self
+            .rest
+            .iter()
+            .position(|&b| b == 10)
+            .ok_or(self.refuse(2))?;
+        let numbers = self.rest[..end]
+            .strip_prefix(key.as_bytes())
+            .ok_or(self.refuse(2))?;
         let numbers: Vec<&[u8]> = numbers.split(|&b| b == b',').collect();
         if numbers.len() != count || !numbers.iter().all(|n| well_spelt(n)) {
             return Err(self.refuse(2));
@@ -39,7 +57,11 @@ impl<'a> Lines<'a> {
     }
 
     pub fn step(&mut self) {
-        let end = self.rest.iter().position(|&b| b == 10).expect("the line was read");
+        let end = self
+            .rest
+            .iter()
+            .position(|&b| b == 10)
+            .expect("the line was read");
         self.rest = &self.rest[end + 1..];
         self.line += 1;
     }

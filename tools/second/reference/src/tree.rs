@@ -11,7 +11,10 @@ pub struct Point {
 
 impl Point {
     pub fn new(x: i64, y: i64) -> Point {
-        Point { x: x as i128, y: y as i128 }
+        Point {
+            x: x as i128,
+            y: y as i128,
+        }
     }
 
     pub fn distance(self, other: Point) -> i128 {
@@ -48,7 +51,9 @@ pub fn fault(n: usize, parent: &[usize]) -> Option<Fault> {
     if let Some(v) = (n + 1..2 * n).find(|&v| children(v) != 2) {
         return Some(Fault::BranchChildren(v));
     }
-    (1..2 * n).find(|&v| !reached(n, parent, v)).map(Fault::Unreached)
+    (1..2 * n)
+        .find(|&v| !reached(n, parent, v))
+        .map(Fault::Unreached)
 }
 
 /// A path without a repeated vertex has at most 2n-1 edges.
@@ -80,11 +85,16 @@ pub fn slack(net: &Net, tree: &Tree, k: usize) -> i128 {
 }
 
 pub fn worst_slack(net: &Net, tree: &Tree) -> i128 {
-    (1..=net.sinks.len()).map(|k| slack(net, tree, k)).min().expect("a net has a sink")
+    (1..=net.sinks.len())
+        .map(|k| slack(net, tree, k))
+        .min()
+        .expect("a net has a sink")
 }
 
 pub fn wire(tree: &Tree) -> i128 {
-    (1..tree.parent.len()).map(|v| tree.point[v].distance(tree.point[tree.parent[v]])).sum()
+    (1..tree.parent.len())
+        .map(|v| tree.point[v].distance(tree.point[tree.parent[v]]))
+        .sum()
 }
 
 /// The coordinate-wise median of three points.
@@ -94,5 +104,8 @@ pub fn median(a: Point, b: Point, c: Point) -> Point {
         three.sort();
         three[1]
     };
-    Point { x: middle(a.x, b.x, c.x), y: middle(a.y, b.y, c.y) }
+    Point {
+        x: middle(a.x, b.x, c.x),
+        y: middle(a.y, b.y, c.y),
+    }
 }

@@ -84,7 +84,12 @@ fn table(name: &str, time: fn(Make, usize) -> Pair) -> Vec<Vec<Pair>> {
         let mut row = Vec::new();
         for n in SIZES {
             let pair = time(make, n);
-            println!("{shape:<14} {n:>5} {:>18.0} {:>16.0} {:>15.2}", pair.library, pair.plain, pair.ratio());
+            println!(
+                "{shape:<14} {n:>5} {:>18.0} {:>16.0} {:>15.2}",
+                pair.library,
+                pair.plain,
+                pair.ratio()
+            );
             row.push(pair);
         }
         all.push(row);
@@ -107,13 +112,20 @@ fn million() {
     let mut out = vec![0; LISTING_LENGTH];
     let (mut library, mut plain) = (Duration::ZERO, Duration::ZERO);
     for _ in 0..1_000_000 / CHUNK {
-        let nets: Vec<Vec<u8>> = (0..CHUNK).map(|_| nets::common(&mut r, 12).text()).collect();
+        let nets: Vec<Vec<u8>> = (0..CHUNK)
+            .map(|_| nets::common(&mut r, 12).text())
+            .collect();
         library += timed(&nets, &mut out, library_plan);
         plain += timed(&nets, &mut out, plain_plan);
     }
     let rate = |time: Duration| 1_000_000.0 / time.as_secs_f64();
     println!("\na million different nets of 12 sinks, plans per second:");
-    println!("library {:.0}, plain {:.0}, ratio of rates {:.2}", rate(library), rate(plain), rate(library) / rate(plain));
+    println!(
+        "library {:.0}, plain {:.0}, ratio of rates {:.2}",
+        rate(library),
+        rate(plain),
+        rate(library) / rate(plain)
+    );
 }
 
 fn growth(name: &str, rows: &[Vec<Pair>]) {
@@ -121,7 +133,11 @@ fn growth(name: &str, rows: &[Vec<Pair>]) {
     println!("\n{name}: time at 512 sinks over time at 200; the square of 512/200 is {square:.2}");
     for ((shape, _), row) in SHAPES.iter().zip(rows) {
         let (small, large) = (row[4], row[5]);
-        println!("{shape:<14} library {:.2}, plain {:.2}", large.library / small.library, large.plain / small.plain);
+        println!(
+            "{shape:<14} library {:.2}, plain {:.2}",
+            large.library / small.library,
+            large.plain / small.plain
+        );
     }
     let worst = |time: fn(&Pair) -> f64| {
         rows.iter().map(|row| time(&row[5])).fold(0.0, f64::max) / time(&rows[0][5])

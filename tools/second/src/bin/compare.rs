@@ -21,7 +21,12 @@ struct Asked {
 }
 
 fn asked() -> Option<Asked> {
-    let mut asked = Asked { seed: SEED, rounds: ROUNDS, programs: None, replay: None };
+    let mut asked = Asked {
+        seed: SEED,
+        rounds: ROUNDS,
+        programs: None,
+        replay: None,
+    };
     let mut words = std::env::args().skip(1);
     while let Some(word) = words.next() {
         let value = words.next()?;
@@ -39,11 +44,19 @@ fn asked() -> Option<Asked> {
     Some(asked)
 }
 
-fn replay(s: &mut Session, name: &str, seed: u64, programs: Option<PathBuf>) -> std::io::Result<()> {
+fn replay(
+    s: &mut Session,
+    name: &str,
+    seed: u64,
+    programs: Option<PathBuf>,
+) -> std::io::Result<()> {
     if name.starts_with("program-") {
         return run_programs(s, programs, seed);
     }
-    let kind = ALL.iter().find(|k| k.name == name).ok_or(std::io::ErrorKind::NotFound)?;
+    let kind = ALL
+        .iter()
+        .find(|k| k.name == name)
+        .ok_or(std::io::ErrorKind::NotFound)?;
     s.start(kind.name, seed);
     (kind.run)(s, &mut Random::new(seed));
     Ok(())
@@ -90,7 +103,11 @@ fn main() -> ExitCode {
     for (call, numbers) in ["plan", "judge"].iter().zip(&s.numbers) {
         println!("{call} answers by number, 0 to 12: {numbers:?}");
     }
-    println!("compared {} cases, {} disagreements", s.total(), s.disagreements);
+    println!(
+        "compared {} cases, {} disagreements",
+        s.total(),
+        s.disagreements
+    );
     match ran {
         Err(error) => {
             eprintln!("compare: {error}");

@@ -1,11 +1,11 @@
 //! All trees over a few sinks.
 
-use crate::library;
 use crate::nets;
 use crate::random::Random;
 use crate::session::Session;
 use crate::trees;
 use repeater_tree::LISTING_LENGTH;
+use second_reference::listing::Listing;
 use second_reference::net::Net;
 use second_reference::slow::listing_of;
 use second_reference::tree::{fault, worst_slack, Tree};
@@ -17,7 +17,8 @@ pub fn legal(s: &mut Session, r: &mut Random) {
     let net = nets::any(r, n);
     let text = net.text();
     let plan = s.plan(&text, LISTING_LENGTH);
-    let best = s.judge(&text, plan.listing()).last;
+    let judged = s.judge(&text, plan.listing());
+    let best = judged.last;
     let mut reached = false;
     for parent in trees::all_with_right_counts(n) {
         if fault(n, &parent).is_some() {
@@ -34,13 +35,22 @@ pub fn legal(s: &mut Session, r: &mut Random) {
             }
         }
     }
-    s.expect(reached, "no tree with all branch points at the root reaches best", &text, b"");
+    s.expect(
+        reached,
+        "no tree with all branch points at the root reaches best",
+        judged,
+        &text,
+        b"",
+    );
 }
 
 fn rival(s: &mut Session, net: &Net, text: &[u8], tree: &Tree, best: i64) {
     s.count();
     if worst_slack(net, tree) > best as i128 {
-        s.disagree(&format!("{tree:?} is better than the library's best {best}"), &[("net", text)]);
+        s.disagree(
+            &format!("{tree:?} is better than the library's best {best}"),
+            &[("net", text)],
+        );
     }
 }
 
@@ -48,8 +58,15 @@ fn accepted(s: &mut Session, net: &Net, text: &[u8], tree: Tree) {
     let listing = listing_of(net, tree);
     let bytes = listing.text();
     let answer = s.judge(text, &bytes);
-    let right = (answer.number, answer.slack, answer.wire as i64) == (0, listing.slack, listing.wire);
-    s.expect(right, "a legal tree with its true measures is not accepted", text, &bytes);
+    let right =
+        (answer.number, answer.slack, answer.wire as i64) == (0, listing.slack, listing.wire);
+    s.expect(
+        right,
+        "a legal tree with its true measures is not accepted",
+        answer,
+        text,
+        &bytes,
+    );
 }
 
 /// Every assignment of parents, legal or not.
@@ -67,13 +84,11 @@ pub fn parents(s: &mut Session, r: &mut Random) {
         let tree = trees::placed(r, &net, parent, 1000);
         let legal = fault(n, &tree.parent).is_none();
         let listing = stated(&net, tree, legal);
-        let number = s.judge(&text, &listing).number;
-        let right = (number == 0) == legal && (legal || matches!(number, 8..=10));
-        s.expect(right, "a listing is accepted otherwise than when it is legal", &text, &listing);
+        let answer = s.judge(&text, &listing);
+        let right = (answer.number == 0) == legal && (legal || matches!(answer.number, 8..=10));
+        let what = "a listing is accepted otherwise than when it is legal";
+        s.expect(right, what, answer, &text, &listing);
     }
-    // The library is pure: the same call again gives the same answer.
-    let again = library::judge(&text, b"") == library::judge(&text, b"");
-    s.expect(again, "the same call gives another answer", &text, b"");
 }
 
 /// True measures where there are any.
@@ -81,5 +96,10 @@ fn stated(net: &Net, tree: Tree, legal: bool) -> Vec<u8> {
     if legal {
         return listing_of(net, tree).text();
     }
-    second_reference::listing::Listing { slack: 0, wire: 0, tree }.text()
+    Listing {
+        slack: 0,
+        wire: 0,
+        tree,
+    }
+    .text()
 }

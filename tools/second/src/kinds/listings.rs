@@ -36,7 +36,8 @@ fn judged(s: &mut Session, r: &mut Random, n: usize) {
         }
         let bytes = other.text();
         let answer = s.judge(&text, &bytes);
-        s.expect(answer.number == number, "a true or false listing is taken otherwise", &text, &bytes);
+        let what = "a true or false listing is taken otherwise";
+        s.expect(answer.number == number, what, answer, &text, &bytes);
     }
 }
 
@@ -47,17 +48,35 @@ pub fn random(s: &mut Session, r: &mut Random) {
 
 pub fn full(s: &mut Session, r: &mut Random) {
     judged(s, r, 512);
+    // The ends of a parent's range, and of the sinks within it.
+    let net = nets::any(r, 512);
+    let listing = random_listing(r, &net);
+    for parent in [0, 1, 512, 513, 1023, 1024] {
+        let mut other = listing.clone();
+        other.tree.parent[1 + r.index(1023)] = parent;
+        s.judge(&net.text(), &other.text());
+    }
 }
 
 /// A listing of another number of sinks.
 pub fn wrong_n(s: &mut Session, r: &mut Random) {
     let n = r.between(1, 20) as usize;
-    let other = if r.once_in(2) { n + 1 } else { r.between(1, 20) as usize };
+    let other = if r.once_in(2) {
+        n + 1
+    } else {
+        r.between(1, 20) as usize
+    };
     let (net, rival) = (nets::common(r, n), nets::common(r, other));
     let bytes = random_listing(r, &rival).text();
     let answer = s.judge(&net.text(), &bytes);
     let right = (answer.number == 7) == (n != other);
-    s.expect(right, "7 is not given exactly for another n", &net.text(), &bytes);
+    s.expect(
+        right,
+        "7 is not given exactly for another n",
+        answer,
+        &net.text(),
+        &bytes,
+    );
 }
 
 /// A legal tree with one or two parents exchanged or replaced: rings, wrong

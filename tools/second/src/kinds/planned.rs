@@ -13,15 +13,33 @@ fn plan_and_judge(s: &mut Session, net: &Net) {
     let text = net.text();
     let plan = s.plan(&text, LISTING_LENGTH);
     if plan.answer.number != 0 {
-        s.expect(plan.answer.number == 5, "a net in the format is refused", &text, b"");
+        s.expect(
+            plan.answer.number == 5,
+            "a net in the format is refused",
+            plan.answer,
+            &text,
+            b"",
+        );
         return;
     }
     let judged = s.judge(&text, plan.listing());
     let same = (judged.number, judged.slack, judged.wire, judged.last)
         == (0, plan.answer.slack, plan.answer.wire, plan.answer.slack);
-    s.expect(same, "the judge measures a plan otherwise", &text, plan.listing());
+    s.expect(
+        same,
+        "the judge measures a plan otherwise",
+        judged,
+        &text,
+        plan.listing(),
+    );
     let best = kraft::maximum(net) == plan.answer.slack as i128;
-    s.expect(best, "a plan's slack is not the Kraft maximum", &text, plan.listing());
+    s.expect(
+        best,
+        "a plan's slack is not the Kraft maximum",
+        plan.answer,
+        &text,
+        plan.listing(),
+    );
 }
 
 pub fn marked(s: &mut Session, _: &mut Random) {
@@ -55,7 +73,11 @@ pub fn coincident(s: &mut Session, r: &mut Random) {
 }
 
 pub fn extremes(s: &mut Session, r: &mut Random) {
-    let n = if r.once_in(30) { 512 } else { r.between(1, 40) as usize };
+    let n = if r.once_in(30) {
+        512
+    } else {
+        r.between(1, 40) as usize
+    };
     plan_and_judge(s, &nets::extreme(r, n));
 }
 
@@ -79,13 +101,27 @@ pub fn need(s: &mut Session, r: &mut Random) {
     let mut net = nets::any(r, n);
     let best = kraft::maximum(&net) as i64;
     let far = r.between(NEED.0, NEED.1);
-    for need in [best, best - 1, best + 1, best - net.branch, best + net.branch, far, NEED.1] {
+    for need in [
+        best,
+        best - 1,
+        best + 1,
+        best - net.branch,
+        best + net.branch,
+        far,
+        NEED.1,
+    ] {
         net.need = need.clamp(NEED.0, NEED.1);
         let text = net.text();
         let length = r.pick(&[0, 40, LISTING_LENGTH]);
-        let number = s.plan(&text, length).answer.number;
-        let right = (number == 5) == (best < net.need);
-        s.expect(right, "5 is not given exactly where the need is unreachable", &text, b"");
+        let answer = s.plan(&text, length).answer;
+        let right = (answer.number == 5) == (best < net.need);
+        s.expect(
+            right,
+            "5 is not given exactly where the need is unreachable",
+            answer,
+            &text,
+            b"",
+        );
     }
 }
 
@@ -99,9 +135,23 @@ pub fn outputs(s: &mut Session, r: &mut Random) {
     let text = net.text();
     let exact = s.plan(&text, 2 * LISTING_LENGTH).answer.last as usize;
     let below = r.index(exact.max(1));
-    for length in [0, 1, exact.saturating_sub(1), exact, exact + 1, exact + 1000, below] {
-        let number = s.plan(&text, length).answer.number;
-        let right = number == 5 || (number == 6) == (length < exact);
-        s.expect(right, "6 is not given exactly where the output is too short", &text, b"");
+    for length in [
+        0,
+        1,
+        exact.saturating_sub(1),
+        exact,
+        exact + 1,
+        exact + 1000,
+        below,
+    ] {
+        let answer = s.plan(&text, length).answer;
+        let right = answer.number == 5 || (answer.number == 6) == (length < exact);
+        s.expect(
+            right,
+            "6 is not given exactly where the output is too short",
+            answer,
+            &text,
+            b"",
+        );
     }
 }

@@ -8,7 +8,11 @@ use repeater_tree::{LISTING_LENGTH, NET_LENGTH};
 
 /// A net in the format and its plan's listing; now and then a large one.
 fn texts_of_any_size(s: &mut Session, r: &mut Random) -> (Vec<u8>, Vec<u8>) {
-    let n = if r.once_in(50) { r.pick(&[200, 512]) } else { r.between(1, 8) as usize };
+    let n = if r.once_in(50) {
+        r.pick(&[200, 512])
+    } else {
+        r.between(1, 8) as usize
+    };
     texts(s, r, n)
 }
 
@@ -95,7 +99,15 @@ fn each_number(text: &[u8]) -> Vec<Vec<u8>> {
     let mut all = Vec::new();
     for at in damage::numbers(text) {
         let value = &text[at.clone()];
-        for by in [damage::odd_spellings(value), damage::congruent(value), damage::limits()].concat() {
+        // Small numbers are the ends of a parent's range over a few sinks.
+        let small = (-1..12).map(|v: i64| v.to_string().into_bytes()).collect();
+        let others = [
+            damage::odd_spellings(value),
+            damage::congruent(value),
+            damage::limits(),
+            small,
+        ];
+        for by in others.concat() {
             all.push(damage::replaced(text, at.clone(), &by));
         }
     }
@@ -106,13 +118,24 @@ fn each_number(text: &[u8]) -> Vec<Vec<u8>> {
 pub fn lengths(s: &mut Session, r: &mut Random) {
     let (net, listing) = small_texts(s, r, 6);
     let spoilt_net = spoilt(r, &net);
-    for length in [NET_LENGTH - 1, NET_LENGTH, NET_LENGTH + 1, LISTING_LENGTH, 3 * NET_LENGTH] {
+    for length in [
+        NET_LENGTH - 1,
+        NET_LENGTH,
+        NET_LENGTH + 1,
+        LISTING_LENGTH,
+        3 * NET_LENGTH,
+    ] {
         for other in damage::of_length(r, &net, length) {
             s.plan(&other, LISTING_LENGTH);
             s.judge(&other, &listing);
         }
     }
-    for length in [LISTING_LENGTH - 1, LISTING_LENGTH, LISTING_LENGTH + 1, 3 * LISTING_LENGTH] {
+    for length in [
+        LISTING_LENGTH - 1,
+        LISTING_LENGTH,
+        LISTING_LENGTH + 1,
+        3 * LISTING_LENGTH,
+    ] {
         for other in damage::of_length(r, &listing, length) {
             s.judge(&net, &other);
             s.judge(&spoilt_net, &other);

@@ -44,7 +44,10 @@ pub fn grow(net: &Net) -> Grown {
         worst = after;
         g.split(v, n + i, sink, own[sink]);
     }
-    Grown { parent: g.parent, worst }
+    Grown {
+        parent: g.parent,
+        worst,
+    }
 }
 
 impl Growing {
@@ -53,7 +56,14 @@ impl Growing {
     /// raises the worst slack, so the first that keeps it is taken.
     fn best_end(&self, new: usize, worst: i64, own: i64) -> (i64, usize) {
         let mut best = (i64::MIN, 0);
-        for (v, (&least, &depth)) in self.least.iter().zip(&self.depth).enumerate().take(new).skip(1) {
+        for (v, (&least, &depth)) in self
+            .least
+            .iter()
+            .zip(&self.depth)
+            .enumerate()
+            .take(new)
+            .skip(1)
+        {
             let after = worst.min(least - self.c).min(own - self.c * (depth + 1));
             if after > best.0 {
                 best = (after, v);

@@ -16,13 +16,21 @@ fn try_plan(net: &[u8], out: &mut [u8]) -> Result<(i64, u64, i64), Refusal> {
     let net = read::net(net)?;
     let grown = grow::grow(&net);
     if grown.worst < net.need {
-        return Err(Refusal { number: 5, text: 1, line: 4 });
+        return Err(Refusal {
+            number: 5,
+            text: 1,
+            line: 4,
+        });
     }
     let points = tree::settle(&net, &grown.parent);
     let wire = tree::wire(&grown.parent, &points);
     let text = text::listing(grown.worst, wire, &grown.parent, &points);
     if out.len() < text.len() {
-        return Err(Refusal { number: 6, text: 0, line: 0 });
+        return Err(Refusal {
+            number: 6,
+            text: 0,
+            line: 0,
+        });
     }
     out[..text.len()].copy_from_slice(&text);
     Ok((grown.worst, wire as u64, text.len() as i64))
@@ -38,11 +46,19 @@ fn try_judge(net: &[u8], listing: &[u8]) -> Result<(i64, u64, i64), Refusal> {
     let order = tree::top_down(net.sinks(), &listing.parent)?;
     let slack = tree::worst_slack(&net, &listing, &order);
     if slack != listing.slack {
-        return Err(Refusal { number: 11, text: 2, line: 1 });
+        return Err(Refusal {
+            number: 11,
+            text: 2,
+            line: 1,
+        });
     }
     let wire = tree::wire(&listing.parent, &listing.points);
     if wire != listing.wire {
-        return Err(Refusal { number: 12, text: 2, line: 2 });
+        return Err(Refusal {
+            number: 12,
+            text: 2,
+            line: 2,
+        });
     }
     // Theorem 1: the first plan reaches the Kraft maximum.
     Ok((slack, wire as u64, grow::grow(&net).worst))

@@ -41,13 +41,26 @@ type Read<T> = Result<T, Refusal>;
 impl<'a> Cursor<'a> {
     fn new(bytes: &'a [u8], text: u8, limit: usize) -> Read<Cursor<'a>> {
         if bytes.len() > limit {
-            return Err(Refusal { number: 1, text, line: 0 });
+            return Err(Refusal {
+                number: 1,
+                text,
+                line: 0,
+            });
         }
-        Ok(Cursor { bytes, at: 0, text, line: 1 })
+        Ok(Cursor {
+            bytes,
+            at: 0,
+            text,
+            line: 1,
+        })
     }
 
     fn fail<T>(&self, number: u8) -> Read<T> {
-        Err(Refusal { number, text: self.text, line: self.line })
+        Err(Refusal {
+            number,
+            text: self.text,
+            line: self.line,
+        })
     }
 
     fn key(&mut self, key: &[u8]) -> Read<()> {
@@ -128,7 +141,13 @@ pub fn net(bytes: &[u8]) -> Read<Net> {
         c.line += 1;
     }
     c.end()?;
-    Ok(Net { branch, wire, need, points, arrivals })
+    Ok(Net {
+        branch,
+        wire,
+        need,
+        points,
+        arrivals,
+    })
 }
 
 pub fn listing(bytes: &[u8], net: &Net) -> Read<Listing> {
@@ -137,7 +156,11 @@ pub fn listing(bytes: &[u8], net: &Net) -> Read<Listing> {
     let slack = c.single(b"slack=", -4_000_000_000_000, 4_000_000_000_000)?;
     let wire = c.single(b"wire=", 0, 1_000_000_000)?;
     if c.single(b"sinks=", 1, 512)? != n as i64 {
-        return Err(Refusal { number: 7, text: 2, line: 3 });
+        return Err(Refusal {
+            number: 7,
+            text: 2,
+            line: 3,
+        });
     }
     let mut parent = Vec::with_capacity(2 * n);
     let mut points = net.points.clone();
@@ -148,14 +171,23 @@ pub fn listing(bytes: &[u8], net: &Net) -> Read<Listing> {
         c.line += 1;
     }
     c.end()?;
-    Ok(Listing { slack, wire, parent, points })
+    Ok(Listing {
+        slack,
+        wire,
+        parent,
+        points,
+    })
 }
 
 fn vertex(c: &mut Cursor, n: usize, k: usize, points: &mut Vec<Point>) -> Read<usize> {
     c.key(if k <= n { b"leaf=" } else { b"node=" })?;
     let named = c.number(b',')?;
     let p = c.number(if k <= n { b'\n' } else { b',' })?;
-    let at = if k <= n { (0, 0) } else { (c.number(b',')?, c.number(b'\n')?) };
+    let at = if k <= n {
+        (0, 0)
+    } else {
+        (c.number(b',')?, c.number(b'\n')?)
+    };
     if named != k as i64 {
         return c.fail(2);
     }

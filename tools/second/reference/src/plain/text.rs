@@ -9,7 +9,11 @@ pub fn listing(slack: i64, wire: i64, parent: &[usize], points: &[Point]) -> Vec
     put(&mut text, b"\nwire=", wire);
     put(&mut text, b"\nsinks=", n as i64);
     for k in 1..2 * n {
-        put(&mut text, if k <= n { b"\nleaf=" } else { b"\nnode=" }, k as i64);
+        put(
+            &mut text,
+            if k <= n { b"\nleaf=" } else { b"\nnode=" },
+            k as i64,
+        );
         put(&mut text, b",", parent[k] as i64);
         if k > n {
             put(&mut text, b",", points[k].0);

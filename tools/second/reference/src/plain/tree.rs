@@ -8,13 +8,21 @@ pub fn distance(a: Point, b: Point) -> i64 {
 }
 
 pub fn wire(parent: &[usize], points: &[Point]) -> i64 {
-    (1..parent.len()).map(|v| distance(points[v], points[parent[v]])).sum()
+    (1..parent.len())
+        .map(|v| distance(points[v], points[parent[v]]))
+        .sum()
 }
 
 /// The vertices from the root down, each after its parent; refusal 9 or 10 if
 /// the parents make no legal tree.
 pub fn top_down(n: usize, parent: &[usize]) -> Result<Vec<usize>, Refusal> {
-    let refuse = |number, line| Err(Refusal { number, text: 2, line });
+    let refuse = |number, line| {
+        Err(Refusal {
+            number,
+            text: 2,
+            line,
+        })
+    };
     let mut count = vec![0usize; 2 * n];
     let mut children = vec![[0usize; 2]; 2 * n];
     for v in 1..2 * n {
@@ -36,7 +44,9 @@ pub fn top_down(n: usize, parent: &[usize]) -> Result<Vec<usize>, Refusal> {
         for &v in &order {
             reached[v] = true;
         }
-        let lost = (1..2 * n).find(|&v| !reached[v]).expect("one is not reached");
+        let lost = (1..2 * n)
+            .find(|&v| !reached[v])
+            .expect("one is not reached");
         return refuse(10, lost + 3);
     }
     Ok(order)
