@@ -23,7 +23,7 @@ pub fn replaced(text: &[u8], at: Range<usize>, by: &[u8]) -> Vec<u8> {
     [&text[..at.start], by, &text[at.end..]].concat()
 }
 
-/// Words that are no number, or one out of most ranges; blanks in between.
+/// Words that are no number, or one that few fields take; blanks in between.
 const ODD_WORDS: &[u8] = b"- + 0 00 -0 -00 01 -01 +1 -1 --1 1- 1.0 1e3 0x1 1_0 1,1 x / : 1: 1/ \
 \xb2 \xef\xbc\x91 1\0 1\r \t1";
 
