@@ -86,9 +86,7 @@ fn table(name: &str, time: fn(Make, usize) -> Pair) -> Vec<Vec<Pair>> {
             let pair = time(make, n);
             println!(
                 "{shape:<14} {n:>5} {:>18.0} {:>16.0} {:>15.2}",
-                pair.library,
-                pair.plain,
-                pair.ratio()
+                pair.library, pair.plain, pair.ratio
             );
             row.push(pair);
         }
