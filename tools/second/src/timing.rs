@@ -2,47 +2,68 @@
 
 use std::time::Instant;
 
-const ROUNDS: usize = 31;
-/// One timed stretch lasts about this long, in nanoseconds: short, so that the
-/// median passes over those in which the machine did something else.
-const STRETCH: f64 = 1_000_000.0;
+const ROUNDS: usize = 25;
+/// One timed stretch lasts about this long, in nanoseconds, or one call: short,
+/// so that few are interrupted and the median passes over those that are.
+const STRETCH: f64 = 100_000.0;
 
-/// Nanoseconds per call, and the library's share of the plain one's.
-#[derive(Clone, Copy)]
+/// Nanoseconds per call.
+#[derive(Clone, Copy, Default)]
 pub struct Pair {
     pub library: f64,
     pub plain: f64,
-    pub ratio: f64,
 }
 
-/// Medians over several rounds, the ratio's too; the rivals take turns within
-/// each round, so that a slow moment of the machine hits both.
-pub fn compare(calls: usize, mut library: impl FnMut(), mut plain: impl FnMut()) -> Pair {
-    let repeats = |once: f64| (STRETCH / once).clamp(1.0, 1e6) as usize;
-    let library_repeats = repeats(stretch(1, &mut library));
-    let plain_repeats = repeats(stretch(1, &mut plain));
+impl Pair {
+    pub fn ratio(&self) -> f64 {
+        self.library / self.plain
+    }
+}
+
+/// The mean over the inputs of the median time on each. The rivals take turns,
+/// so that a slow moment of the machine hits both.
+pub fn compare<T>(inputs: &[T], mut library: impl FnMut(&T), mut plain: impl FnMut(&T)) -> Pair {
+    let mut sum = Pair::default();
+    for input in inputs {
+        let pair = on_one(&mut || library(input), &mut || plain(input));
+        sum.library += pair.library;
+        sum.plain += pair.plain;
+    }
+    let count = inputs.len() as f64;
+    Pair {
+        library: sum.library / count,
+        plain: sum.plain / count,
+    }
+}
+
+fn on_one(library: &mut impl FnMut(), plain: &mut impl FnMut()) -> Pair {
+    let (library_repeats, plain_repeats) = (repeats(library), repeats(plain));
     let (mut one, mut two) = (Vec::new(), Vec::new());
     for _ in 0..ROUNDS {
-        one.push(stretch(library_repeats, &mut library) / (library_repeats * calls) as f64);
-        two.push(stretch(plain_repeats, &mut plain) / (plain_repeats * calls) as f64);
+        one.push(per_call(library_repeats, library));
+        two.push(per_call(plain_repeats, plain));
     }
-    let ratios = one.iter().zip(&two).map(|(a, b)| a / b).collect();
     Pair {
         library: median(one),
         plain: median(two),
-        ratio: median(ratios),
     }
 }
 
-fn stretch(repeats: usize, work: &mut impl FnMut()) -> f64 {
+/// From a second call, since the first is slow.
+fn repeats(work: &mut impl FnMut()) -> usize {
+    work();
+    (STRETCH / per_call(1, work)).clamp(1.0, 1e4) as usize
+}
+
+fn per_call(repeats: usize, work: &mut impl FnMut()) -> f64 {
     let start = Instant::now();
     for _ in 0..repeats {
         work();
     }
-    (start.elapsed().as_nanos() as f64).max(1.0)
+    (start.elapsed().as_nanos() as f64).max(1.0) / repeats as f64
 }
 
-fn median(mut times: Vec<f64>) -> f64 {
+pub fn median(mut times: Vec<f64>) -> f64 {
     times.sort_by(f64::total_cmp);
     times[times.len() / 2]
 }

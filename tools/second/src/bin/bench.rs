@@ -7,7 +7,7 @@ use second_reference::net::Net;
 use second_reference::plain;
 use second_tool::nets;
 use second_tool::random::Random;
-use second_tool::timing::{compare, Pair};
+use second_tool::timing::{compare, median, Pair};
 use std::hint::black_box;
 use std::time::{Duration, Instant};
 
@@ -21,7 +21,7 @@ const SHAPES: [(&str, Make); 4] = [
 ];
 const SIZES: [usize; 6] = [1, 5, 12, 50, 200, 512];
 /// Different nets of one shape and size.
-const NETS: usize = 16;
+const NETS: usize = 12;
 
 fn library_plan(net: &[u8], out: &mut [u8]) {
     let mut figures = PlanFigures::default();
@@ -39,41 +39,37 @@ fn texts(make: Make, n: usize) -> Vec<Vec<u8>> {
 }
 
 fn time_plan(make: Make, n: usize) -> Pair {
-    let nets = texts(make, n);
     let mut one = vec![0; LISTING_LENGTH];
     let mut two = vec![0; LISTING_LENGTH];
     compare(
-        NETS,
-        || nets.iter().for_each(|net| library_plan(net, &mut one)),
-        || nets.iter().for_each(|net| plain_plan(net, &mut two)),
+        &texts(make, n),
+        |net| library_plan(net, &mut one),
+        |net| plain_plan(net, &mut two),
     )
 }
 
+fn library_judge(case: &(Vec<u8>, Vec<u8>)) {
+    let mut figures = JudgeFigures::default();
+    judge_figures(black_box(&case.0), black_box(&case.1), &mut figures);
+    assert_eq!(black_box(&figures).number, 0);
+}
+
+fn plain_judge(case: &(Vec<u8>, Vec<u8>)) {
+    let answer = plain::judge(black_box(&case.0), black_box(&case.1));
+    assert_eq!(black_box(answer).number, 0);
+}
+
+/// Each net with its plan.
 fn time_judge(make: Make, n: usize) -> Pair {
+    let mut out = vec![0; LISTING_LENGTH];
     let cases: Vec<(Vec<u8>, Vec<u8>)> = texts(make, n)
         .into_iter()
         .map(|net| {
-            let mut out = vec![0; LISTING_LENGTH];
             let bytes = plain::plan(&net, &mut out).last as usize;
             (net, out[..bytes].to_vec())
         })
         .collect();
-    compare(
-        NETS,
-        || {
-            for (net, listing) in &cases {
-                let mut figures = JudgeFigures::default();
-                judge_figures(black_box(net), black_box(listing), &mut figures);
-                assert_eq!(black_box(&figures).number, 0);
-            }
-        },
-        || {
-            for (net, listing) in &cases {
-                let answer = plain::judge(black_box(net), black_box(listing));
-                assert_eq!(black_box(answer).number, 0);
-            }
-        },
-    )
+    compare(&cases, library_judge, plain_judge)
 }
 
 /// One row per shape and size, in order.
@@ -86,7 +82,9 @@ fn table(name: &str, time: fn(Make, usize) -> Pair) -> Vec<Vec<Pair>> {
             let pair = time(make, n);
             println!(
                 "{shape:<14} {n:>5} {:>18.0} {:>16.0} {:>15.2}",
-                pair.library, pair.plain, pair.ratio
+                pair.library,
+                pair.plain,
+                pair.ratio()
             );
             row.push(pair);
         }
@@ -103,26 +101,34 @@ fn timed(nets: &[Vec<u8>], out: &mut [u8], plan: fn(&[u8], &mut [u8])) -> Durati
     start.elapsed()
 }
 
-/// Different nets, made in chunks outside the timed stretches.
+/// Different nets, made in chunks outside the timed stretches. The median chunk
+/// tells the rate of a machine that does nothing else.
 fn million() {
-    const CHUNK: usize = 20_000;
+    const CHUNK: usize = 500;
     let mut r = Random::new(12);
     let mut out = vec![0; LISTING_LENGTH];
-    let (mut library, mut plain) = (Duration::ZERO, Duration::ZERO);
+    let (mut library, mut plain) = (Vec::new(), Vec::new());
     for _ in 0..1_000_000 / CHUNK {
         let nets: Vec<Vec<u8>> = (0..CHUNK)
             .map(|_| nets::common(&mut r, 12).text())
             .collect();
-        library += timed(&nets, &mut out, library_plan);
-        plain += timed(&nets, &mut out, plain_plan);
+        library.push(timed(&nets, &mut out, library_plan).as_secs_f64());
+        plain.push(timed(&nets, &mut out, plain_plan).as_secs_f64());
     }
-    let rate = |time: Duration| 1_000_000.0 / time.as_secs_f64();
     println!("\na million different nets of 12 sinks, plans per second:");
+    let all = |times: &[f64]| 1_000_000.0 / times.iter().sum::<f64>();
+    let (one, two) = (all(&library), all(&plain));
     println!(
-        "library {:.0}, plain {:.0}, ratio of rates {:.2}",
-        rate(library),
-        rate(plain),
-        rate(library) / rate(plain)
+        "over all     library {one:.0}, plain {two:.0}, ratio {:.2}",
+        one / two
+    );
+    let (one, two) = (median(library), median(plain));
+    let rate = |time: f64| CHUNK as f64 / time;
+    println!(
+        "median chunk library {:.0}, plain {:.0}, ratio {:.2}",
+        rate(one),
+        rate(two),
+        two / one
     );
 }
 
