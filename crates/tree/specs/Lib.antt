@@ -10,6 +10,7 @@ pub mod Theorem1
 pub mod Defects
 pub mod Limits
 pub mod Arrays
+pub mod Tallies
 pub mod Found
 pub mod Insertion
 pub mod Marked

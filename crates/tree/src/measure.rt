@@ -3,16 +3,15 @@ ghost use mathlib.Core.Path.{_≡_};
 ghost use Prim.Native.Nat.{_+_, _*_, _≤_, _<_};
 ghost use lib.ListN.{length, getD};
 ghost use mathlib.Core.List.{List};
-ghost use mathlib.Core.Bool.{cond};
 ghost use lib.Dec.{ltb};
 ghost use lib.IntN.{ℤ, pos, _+ℤ_};
 ghost use Rattle.quantities.specs.Reach.{Within, PointWithin, lengthReach, timeReach, factorReach};
-ghost use Rattle.quantities.specs.Order.{minℤ};
 ghost use Rattle.tree.specs.declared.header.Header.{Header};
 ghost use Rattle.tree.specs.Net.{delay};
-ghost use Rattle.tree.specs.Measures.{edgeLength, pathDelay, oneIf, depth, slack, worstSlack, wireLength};
+ghost use Rattle.tree.specs.Measures.{pathDelay, oneIf, depth, slack, worstSlack, wireLength};
 ghost use Rattle.tree.specs.Limits.{positionLimit, wireFactorLimit};
 ghost use Rattle.tree.specs.Arrays.{pointAt, lengthAbove, netOf, treeOf, HoldsNet, HoldsTree};
+ghost use Rattle.tree.specs.Tallies.{firstCounted, counted};
 use crate::header::Header;
 use quantities::length::Length;
 use quantities::point::Point;
@@ -140,8 +139,26 @@ pub fn sink_slack(
         .minus(branch.times(way.depth))
 }
 
+// The tally of vertex 1, a sink.
+fn first_vertex(
+    h: Header,
+    n: usize,
+    parents: &[usize],
+    xs: &[i64],
+    ys: &[i64],
+    required: &[i64],
+) -> Tally
+    requires { ⌜ HoldsNet h n (now xs) (now ys) (now required) × HoldsTree n (now parents) (now xs) (now ys) ⌝ }
+    ensures { λ r. ⌜ r ≡ firstCounted (netOf h n (now (xs .entry)) (now (ys .entry)) (now (required .entry))) (treeOf n (now (parents .entry)) (now (xs .entry)) (now (ys .entry))) ⌝ }
+{
+    Tally {
+        worst: sink_slack(h, n, parents, xs, ys, required, 1),
+        wire: edge_length(n, parents, xs, ys, 1),
+    }
+}
+
 // The tally with vertex v counted in.
-fn tally_vertex(
+fn with_vertex(
     tally: Tally,
     h: Header,
     n: usize,
@@ -152,8 +169,7 @@ fn tally_vertex(
     v: usize,
 ) -> Tally
     requires { ⌜ HoldsNet h n (now xs) (now ys) (now required) × HoldsTree n (now parents) (now xs) (now ys) × (1 ≤ v) × (v < 2 * n) × (tally .wire .0 ≤ lengthReach) ⌝ }
-    ensures worst { λ r. ⌜ r .worst .0 ≡ cond (ltb n v) (tally .worst .0) (minℤ (tally .worst .0) (slack (netOf h n (now (xs .entry)) (now (ys .entry)) (now (required .entry))) (treeOf n (now (parents .entry)) (now (xs .entry)) (now (ys .entry))) v)) ⌝ }
-    ensures wire { λ r. ⌜ r .wire .0 ≡ tally .wire .0 + edgeLength (netOf h n (now (xs .entry)) (now (ys .entry)) (now (required .entry))) (treeOf n (now (parents .entry)) (now (xs .entry)) (now (ys .entry))) v ⌝ }
+    ensures { λ r. ⌜ r ≡ counted (netOf h n (now (xs .entry)) (now (ys .entry)) (now (required .entry))) (treeOf n (now (parents .entry)) (now (xs .entry)) (now (ys .entry))) n v tally ⌝ }
 {
     let worst = tally.worst;
     let before = tally.wire;
@@ -167,7 +183,24 @@ fn tally_vertex(
     }
 }
 
-// The worst slack and the wire of a tree, legal or not.
+// The measuring step: vertex v is counted into the tally that is lent.
+fn count_vertex(
+    tally: &mut Tally,
+    h: Header,
+    n: usize,
+    parents: &[usize],
+    xs: &[i64],
+    ys: &[i64],
+    required: &[i64],
+    v: usize,
+)
+    requires { ⌜ HoldsNet h n (now xs) (now ys) (now required) × HoldsTree n (now parents) (now xs) (now ys) × (1 ≤ v) × (v < 2 * n) × (now tally .wire .0 ≤ lengthReach) ⌝ }
+    ensures { λ _. ⌜ now (tally .exit) ≡ counted (netOf h n (now (xs .entry)) (now (ys .entry)) (now (required .entry))) (treeOf n (now (parents .entry)) (now (xs .entry)) (now (ys .entry))) n v (now (tally .entry)) ⌝ }
+{
+    *tally = with_vertex(*tally, h, n, parents, xs, ys, required, v);
+}
+
+// The worst slack and the wire of a tree, legal or not: one tally is lent from vertex to vertex.
 pub fn measure(
     h: Header,
     n: usize,
@@ -180,14 +213,9 @@ pub fn measure(
     ensures worst { λ r. ⌜ r .worst .0 ≡ worstSlack (netOf h n (now (xs .entry)) (now (ys .entry)) (now (required .entry))) (treeOf n (now (parents .entry)) (now (xs .entry)) (now (ys .entry))) ⌝ }
     ensures wire { λ r. ⌜ r .wire .0 ≡ wireLength (netOf h n (now (xs .entry)) (now (ys .entry)) (now (required .entry))) (treeOf n (now (parents .entry)) (now (xs .entry)) (now (ys .entry))) ⌝ }
 {
-    let mut tally = Tally {
-        worst: sink_slack(h, n, parents, xs, ys, required, 1),
-        wire: edge_length(n, parents, xs, ys, 1),
-    };
-    let mut v = 2;
-    while v < 2 * n {
-        tally = tally_vertex(tally, h, n, parents, xs, ys, required, v);
-        v += 1;
+    let mut tally = first_vertex(h, n, parents, xs, ys, required);
+    for v in 2..2 * n {
+        count_vertex(&mut tally, h, n, parents, xs, ys, required, v);
     }
     tally
 }

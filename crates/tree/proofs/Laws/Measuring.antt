@@ -17,6 +17,7 @@ use Rattle.quantities.specs.Reach.{Within, PointWithin, coordinateReach, length
 use Rattle.quantities.specs.Distance.{distance}
 use Rattle.quantities.proofs.Laws.Distance.{distance-within}
 use Rattle.tree.specs.declared.header.Header.{Header}
+use Rattle.tree.specs.declared.measure.Tally.{Tally}
 use Rattle.tree.specs.Lists.{sumOver, range, leastFrom, least}
 use Rattle.tree.specs.Net.{Net, size, delay}
 use Rattle.tree.specs.Tree.{Tree, parent, place}
@@ -320,6 +321,14 @@ module _ (n : ℕ) (ps : List ℕ) (xs ys : List ℤ) (held : HoldsTree n ps xs 
       sum-same : {f g : ℕ → ℕ} (a k : ℕ) → ((i : ℕ) → a ≤ i → i < a + k → f i ≡ g i) → sumOver (range a k) f ≡ sumOver (range a k) g
       sum-same a zero s = refl
       sum-same a (suc k) s = ap₂ _+_ (s a (omega arith) (omega arith)) (sum-same (suc a) k (λ i p q. s i (omega arith) (omega arith)))
+
+-- ---- a tally is its two numbers
+
+pub tally-same : (t u : Tally) → t .worst .0 ≡ u .worst .0 → t .wire .0 ≡ u .wire .0 → t ≡ u
+tally-same t u d e = ap₂ made d e
+  where
+    made : ℤ → ℕ → Tally
+    made z k = record { worst = record { 0 = z }; wire = record { 0 = k } }
 
 -- ---- the vertices 1 to v - 1 are tallied: the worst slack of the sinks among them, and the wire
 

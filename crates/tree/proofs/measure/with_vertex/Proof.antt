@@ -4,9 +4,9 @@ use native.Mathlib.Omega.{arith}
 use mathlib.Core.Path.{_≡_, sym, _∙_}
 use Rattle.tree.specs.Measures.{edgeLength}
 use Rattle.tree.specs.Arrays.{netOf, treeOf}
-use Rattle.tree.proofs.Laws.Measuring.{length-limit, edge-length-is}
-use Rattle.tree.proofs.measure.tally_vertex.Statement.{statement}
-use Rattle.tree.proofs.measure.tally_vertex.Tie as tie
+use Rattle.tree.proofs.Laws.Measuring.{length-limit, edge-length-is, tally-same}
+use Rattle.tree.proofs.measure.with_vertex.Statement.{statement}
+use Rattle.tree.proofs.measure.with_vertex.Tie as tie
 
 edge-length-requires : tie.Need-edge-length-requires
 edge-length-requires c κs = search needs
@@ -27,10 +27,8 @@ edge c =
 
 returns : tie.Need-returns
 returns c =
-    let a = c .before .before .before .before .before .before .args in (
-      rw (lt-ltb (a .n) (a .v) (c .if1 .taken)),
-      omega (arith, c .before .plus .ensures, edge (c .before .before)),
-    )
+    let a = c .before .before .before .before .before .before .args in
+    tally-same _ _ (rw (lt-ltb (a .n) (a .v) (c .if1 .taken))) (omega (arith, c .before .plus .ensures, edge (c .before .before)))
 
 sink-slack-requires : tie.Need-sink-slack-requires
 sink-slack-requires c κs = search needs
@@ -40,13 +38,13 @@ least-requires c κs = search needs
 
 returns-2 : tie.Need-returns-2
 returns-2 c =
-    let a = c .before .before .before .before .before .before .before .before .args in (
-      rw (le-ltb (a .n) (a .v) (c .before .before .if1 .left)) (rw (← c .before .sink-slack .ensures) (c .least .ensures)),
-      omega (arith, c .before .before .before .plus .ensures, edge (c .before .before .before .before)),
-    )
+    let a = c .before .before .before .before .before .before .before .before .args in
+    tally-same _ _
+    (rw (le-ltb (a .n) (a .v) (c .before .before .if1 .left)) (rw (← c .before .sink-slack .ensures) (c .least .ensures)))
+    (omega (arith, c .before .before .before .plus .ensures, edge (c .before .before .before .before)))
 
-pub tally-vertex-spec : {M : Type 1} → statement M
-tally-vertex-spec =
+pub with-vertex-spec : {M : Type 1} → statement M
+with-vertex-spec =
     tie.close
     (tie.spec
     edge-length-requires
