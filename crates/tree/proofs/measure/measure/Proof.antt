@@ -23,7 +23,7 @@ use ghost.Atoms.{Atoms, sem}
 use contract.Lifetimes.{Lfts, Shares, toks}
 use contract.Monad.{Fun, fact, fact-use}
 use contract.Running.{givenOf, tables, tablesOf}
-use types.Kit.{Given, Item, ‵, raw, _⊛_, given, some, later, runs, anyQ, atRet, Sq, _$_, _∵_, !, qed, by, move, keep, drop, use1, use2, use3, split, join, pick, learn, check, fsplit, fjoin, fpick, fpack, feqL, suffices, frame, await, updating, now as at-once, done}
+use types.Kit.{Given, Item, ‵, raw, _⊛_, given, some, later, runs, anyQ, atRet, Sq, _$_, _∵_, !, qed, by, move, keep, use1, use2, use3, split, join, pick, learn, check, fsplit, fjoin, fpick, fpack, feqL, suffices, frame, await, updating, now as at-once, done}
 use types.Tokens.{lft-new, lft-end}
 use types.Run.{look, look-raw, store, init, forget, stop, from, load, lit, of-opd, bin, addr, and-then, no-more, assigns, assigns-last, first, skips, jumps, blocks, branches, land, returns, enter, alloc1, alloc0, params1, pass1, pass0, free1, free0, exec, Below, again, loops}
 use types.SemTy.{Body}
@@ -42,7 +42,7 @@ use denote.Struct.Struct.{twices}
 use denote.Struct.Laws as LL
 use denote.Triple.Statement.{Contract, Triple}
 use denote.Triple.Call.{calls-at}
-use denote.Triple.Entry.{Args, Vals, onEntry}
+use denote.Triple.Entry.{Args, onEntry}
 use denote.Triple.Spec.{Meets, tripleOf}
 use denote.Triple.Table.{entered, cited}
 use denote.Triple.Walked.{says, needs, Stays, stay-dropped, walkOf, Walks, onExit, ends-at, walked, walk-meets}
@@ -230,6 +230,12 @@ module _ {M : Type 1} (𝓤 : URA M) (H : Heap 𝓤) (A : Atoms 𝓤) (W : Given
     fits : (v : ℕ) → v ≤ 2 * n → v < 2 ^ 64
     fits v l = omega (arith, held .1 .parents-in .few)
 
+    above : (i : Turn) → 1 ≤ i .0
+    above i = omega (arith, i .2 .begun)
+
+    below : (i : Turn) → Holds (ltb (i .0) (2 * n)) → i .0 < 2 * n
+    below i less = ltb→lt (i .0) (2 * n) less
+
     small : (i : Turn) → i .1 .wire .0 ≤ lengthReach
     small i = tally-small net tree n (i .0) _ _ (i .2) (held .1 .parents-in .few) (edge-length-limit n parents xs ys (held .1) (x .0) required)
 
@@ -302,12 +308,6 @@ module _ {M : Type 1} (𝓤 : URA M) (H : Heap 𝓤) (A : Atoms 𝓤) (W : Given
             move ! (29 ∷ 30 ∷ []) $ free1 ! $ move ! (27 ∷ 28 ∷ []) $ free1 ! $ move ! (25 ∷ 26 ∷ []) $ free1 ! $ move ! (23 ∷ 24 ∷ []) $ free1 ! $ move ! (21 ∷ 22 ∷ []) $ free1 ! $ move ! (19 ∷ 20 ∷ []) $ free1 ! $ move ! (17 ∷ 18 ∷ []) $ free1 ! $ move ! (0 ∷ 16 ∷ []) $ free1 ! $
             move ! (13 ∷ 14 ∷ []) $ free1 ! $ move ! (11 ∷ 12 ∷ []) $ free1 ! $ move ! (9 ∷ 10 ∷ []) $ free1 ! $ move ! (7 ∷ 8 ∷ []) $ free1 ! $ move ! (5 ∷ 6 ∷ []) $ free1 ! $ move ! (3 ∷ 4 ∷ []) $ free1 ! $ free0 ! $
             keep ! (1 ∷ 0 ∷ []) $ by ! (exits (i .1) (T′.lowered (i .1)) (ends i (nltb→le (i .0) (2 * n) over))))))
-          where
-            above : (i : Turn) → 1 ≤ i .0
-            above i = omega (arith, i .2 .begun)
-
-            below : (i : Turn) → Holds (ltb (i .0) (2 * n)) → i .0 < 2 * n
-            below i less = ltb→lt (i .0) (2 * n) less
 
       abbrev machine : List Val
       machine = D′.lowered (x .0) ∷ vint w64 n ∷ only (vals .1 .1 .0) ∷ only (vals .1 .1 .1 .0) ∷ only (vals .1 .1 .1 .1 .0) ∷ only (vals .1 .1 .1 .1 .1 .0) ∷ []
