@@ -10,6 +10,7 @@ pub mod Writing
 pub mod ListingWriting
 pub mod Ranges
 pub mod Due
+pub mod Taking
 pub mod Heads
 pub mod SinkLines
 pub mod DueFor

@@ -1,5 +1,6 @@
 -- What the answers of the listing reader's parts mean, by the declared types. Definitions alone.
 use Prim.Native.Nat.{ℕ, suc, _+_, _*_, _-_, _≤_}
+use mathlib.Core.Path.{_≡_}
 use mathlib.Core.List.{List, [], _∷_, _++_, map}
 use lib.ListN.{length, getD, drop}
 use lib.IntN.{ℤ, natAbs}
@@ -31,12 +32,12 @@ dueTop n s next =
     sameCount n (natAbs (at count 0)) (next (at slack 0) (natAbs (at wire 0)) s₃)
 
 abbrev pub topOutcome : Top → List ℕ → (ℤ → ℕ → List ℕ → Outcome Listing) → Outcome Listing
-topOutcome (TopRead slack wire at) s next = next (slack .0) (wire .0) (drop at s)
+topOutcome (TopRead slack wire here) s next = next (slack .0) (wire .0) (drop (here .at) s)
 topOutcome (TopRefused number line) s next = refused number line
 
--- where the next line starts, that is in the text or at its end
+-- the next line starts in the text or at its end, and is line 4
 abbrev pub TopWithin : Top → List ℕ → Type 0
-TopWithin (TopRead slack wire at) s = at ≤ length s
+TopWithin (TopRead slack wire here) s = (here .at ≤ length s) × (here .line ≡ 4)
 TopWithin (TopRefused number line) s = Unit {0}
 
 -- ---- the line of vertex k
@@ -45,12 +46,13 @@ abbrev pub dueLeaf : ℕ → ℕ → ℕ → List ℕ → (ℕ → List ℕ → 
 dueLeaf l n k s next = dueFor l leafKey k (parentRange n ∷ []) s λ zs r. noSink n l (natAbs (at zs 0)) (next (natAbs (at zs 0)) r)
 
 abbrev pub leafOutcome : LeafRead → ℕ → List ℕ → (ℕ → List ℕ → Outcome Listing) → Outcome Listing
-leafOutcome (Leaf parent at) l s next = next parent (drop at s)
+leafOutcome (Leaf parent here) l s next = next parent (drop (here .at) s)
 leafOutcome (LeafRefused number) l s next = refused number l
 
-abbrev pub LeafWithin : LeafRead → List ℕ → Type 0
-LeafWithin (Leaf parent at) s = at ≤ length s
-LeafWithin (LeafRefused number) s = Unit {0}
+-- after line l the next line is the next by number
+abbrev pub LeafWithin : LeafRead → ℕ → List ℕ → Type 0
+LeafWithin (Leaf parent here) l s = (here .at ≤ length s) × (here .line ≡ l + 1)
+LeafWithin (LeafRefused number) l s = Unit {0}
 
 abbrev pub dueNode : ℕ → ℕ → ℕ → List ℕ → (ℕ → Point → List ℕ → Outcome Listing) → Outcome Listing
 dueNode l n k s next =
@@ -58,12 +60,12 @@ dueNode l n k s next =
     noSink n l (natAbs (at zs 0)) (next (natAbs (at zs 0)) (record { x = at zs 1; y = at zs 2 }) r)
 
 abbrev pub nodeOutcome : NodeRead → ℕ → List ℕ → (ℕ → Point → List ℕ → Outcome Listing) → Outcome Listing
-nodeOutcome (Node parent x y at) l s next = next parent (record { x = x; y = y }) (drop at s)
+nodeOutcome (Node parent x y here) l s next = next parent (record { x = x; y = y }) (drop (here .at) s)
 nodeOutcome (NodeRefused number) l s next = refused number l
 
-abbrev pub NodeWithin : NodeRead → List ℕ → Type 0
-NodeWithin (Node parent x y at) s = at ≤ length s
-NodeWithin (NodeRefused number) s = Unit {0}
+abbrev pub NodeWithin : NodeRead → ℕ → List ℕ → Type 0
+NodeWithin (Node parent x y here) l s = (here .at ≤ length s) × (here .line ≡ l + 1)
+NodeWithin (NodeRefused number) l s = Unit {0}
 
 -- ---- the lines of some vertices
 
@@ -76,12 +78,13 @@ abbrev pub pointsFrom : List ℤ → List ℤ → ℕ → ℕ → List Point
 pointsFrom xs ys a m = map (pointAt xs ys) (range a m)
 
 abbrev pub linesOutcome : Lines → List ℕ → (List ℕ → Outcome Listing) → Outcome Listing
-linesOutcome (LinesRead at) s next = next (drop at s)
+linesOutcome (LinesRead here) s next = next (drop (here .at) s)
 linesOutcome (LinesRefused number line) s next = refused number line
 
-abbrev pub LinesWithin : Lines → List ℕ → Type 0
-LinesWithin (LinesRead at) s = at ≤ length s
-LinesWithin (LinesRefused number line) s = Unit {0}
+-- the next line is line l
+abbrev pub LinesWithin : Lines → ℕ → List ℕ → Type 0
+LinesWithin (LinesRead here) l s = (here .at ≤ length s) × (here .line ≡ l)
+LinesWithin (LinesRefused number line) l s = Unit {0}
 
 -- all of them, with nothing after them
 abbrev pub dueTree : ℕ → List ℕ → (Tree → Listing) → Outcome Listing

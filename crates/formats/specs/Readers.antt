@@ -13,6 +13,7 @@ use Rattle.tree.specs.Limits.{branchLimit, wireFactorLimit, needLimit, sinkLimi
 use Rattle.formats.specs.Reading.{at, Outcome, value, refused, due, ended}
 use Rattle.formats.specs.NetText.{branchKey, wireKey, needKey, sinksKey, sinkKey, around, upTo, sinkRanges, readSinks}
 use Rattle.formats.specs.ListingText.{Listing}
+use Rattle.formats.specs.declared.reader.Place.{Place}
 use Rattle.formats.specs.declared.read_net.Head.{Head}
 use Rattle.formats.specs.declared.read_net.Head.the-variants.{HeadRead, HeadRefused}
 use Rattle.formats.specs.declared.read_net.SinkLine.{SinkLine}
@@ -61,21 +62,22 @@ pub record Heads (o : Outcome Net) (s : List ℕ) (r : Head) : Type 0 where
   pub reads : o ≡ afterHead r s
   pub within : HeadWithin r s
 
--- the line of a sink was read into the place i of the arrays, and the next line starts at `next`
-pub record SinkStored (s : List ℕ) (at i : ℕ) (xs ys required : List ℤ) (next : ℕ) (xs′ ys′ required′ : List ℤ) : Type 0 where
+-- the line of a sink was read into the place i of the arrays, and the next line stands at `next`
+pub record SinkStored (s : List ℕ) (here : Place) (i : ℕ) (xs ys required : List ℤ) (next : Place) (xs′ ys′ required′ : List ℤ) : Type 0 where
   pub x : ℤ
   pub y : ℤ
   pub a : ℤ
-  pub reads : (l : ℕ) (cont : List ℤ → List ℕ → Outcome Net) → due l sinkKey sinkRanges (drop at s) cont ≡ cont (x ∷ (y ∷ (a ∷ []))) (drop next s)
-  pub within : next ≤ length s
+  pub reads : (l : ℕ) (cont : List ℤ → List ℕ → Outcome Net) → due l sinkKey sinkRanges (drop (here .at) s) cont ≡ cont (x ∷ (y ∷ (a ∷ []))) (drop (next .at) s)
+  pub within : next .at ≤ length s
+  pub line-is : next .line ≡ here .line + 1
   pub xs-is : xs′ ≡ set xs i x
   pub ys-is : ys′ ≡ set ys i y
   pub required-is : required′ ≡ set required i a
 
--- what an answer to the line of a sink at `at` says: xs′, ys′ and required′ are the arrays after it
-abbrev pub SinkSays : List ℕ → ℕ → ℕ → List ℤ → List ℤ → List ℤ → SinkLine → List ℤ → List ℤ → List ℤ → Type 0
-SinkSays s at i xs ys required (SinkRead next) xs′ ys′ required′ = SinkStored s at i xs ys required next xs′ ys′ required′
-SinkSays s at i xs ys required (SinkRefused number) xs′ ys′ required′ = (l : ℕ) (cont : List ℤ → List ℕ → Outcome Net) → due l sinkKey sinkRanges (drop at s) cont ≡ refused number l
+-- what an answer to the line of a sink at `here` says: xs′, ys′ and required′ are the arrays after it
+abbrev pub SinkSays : List ℕ → Place → ℕ → List ℤ → List ℤ → List ℤ → SinkLine → List ℤ → List ℤ → List ℤ → Type 0
+SinkSays s here i xs ys required (SinkRead next) xs′ ys′ required′ = SinkStored s here i xs ys required next xs′ ys′ required′
+SinkSays s here i xs ys required (SinkRefused number) xs′ ys′ required′ = (l : ℕ) (cont : List ℤ → List ℕ → Outcome Net) → due l sinkKey sinkRanges (drop (here .at) s) cont ≡ refused number l
 
 -- the net of n sinks that the arrays hold under the header h, or the refusal
 abbrev pub netOutcome : Header → ℕ → NetRead → List ℤ → List ℤ → List ℤ → Outcome Net

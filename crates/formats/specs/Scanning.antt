@@ -13,6 +13,8 @@ use Rattle.formats.specs.declared.scan.Scanned.the-variants.{Value, Miss
 use Rattle.formats.specs.declared.scan.Numbers.{Numbers}
 use Rattle.formats.specs.declared.scan.Line.{Line}
 use Rattle.formats.specs.declared.scan.Line.the-variants.{Spelt, Misspelled}
+use Rattle.formats.specs.declared.reader.Taken.{Taken}
+use Rattle.formats.specs.declared.reader.Taken.the-variants.{AsDue, NotDue}
 
 -- every number of this magnitude or more is held as this one: it is out of every range
 abbrev pub magnitudeCap : ℕ
@@ -46,3 +48,8 @@ heldAll zs = record {
 abbrev pub lineAt : ℕ → Row → Line
 lineAt at (row zs k) = Spelt (heldAll zs) (at + k)
 lineAt at misspelled = Misspelled
+
+-- the answer of a reader at a position on line l: where the line is as due, the next one has the next number
+abbrev pub takenAt : ℕ → ℕ → Row → Taken
+takenAt at l (row zs k) = AsDue (heldAll zs) (record { at = at + k; line = l + 1 })
+takenAt at l misspelled = NotDue

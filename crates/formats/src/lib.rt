@@ -8,6 +8,7 @@ pub mod plan;
 mod ranges;
 mod read_listing;
 mod read_net;
+mod reader;
 mod scan;
 mod write;
 mod write_listing;

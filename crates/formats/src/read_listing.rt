@@ -2,7 +2,7 @@
 ghost use mathlib.Core.Bool.{_&&_};
 ghost use mathlib.Core.List.{List};
 ghost use mathlib.Core.Path.{_≡_};
-ghost use Prim.Native.Nat.{ℕ, suc, _*_, _-_, _≤_, _<_};
+ghost use Prim.Native.Nat.{ℕ, suc, _+_, _*_, _-_, _^_, _≤_, _<_};
 ghost use lib.IntN.{ℤ, pos};
 ghost use lib.ListN.{length, drop, getD};
 ghost use lib.Signed.{leZ};
@@ -23,8 +23,10 @@ use crate::number::Number;
 use crate::ranges::is_around;
 use crate::ranges::is_from_zero;
 use crate::ranges::is_up_to;
-use crate::scan::Line;
-use crate::scan::line_at;
+use crate::reader::Place;
+use crate::reader::Taken;
+use crate::reader::bytes_follow;
+use crate::reader::read_line;
 use quantities::length::Length;
 use quantities::time::Time;
 
@@ -34,12 +36,12 @@ pub enum ListingRead {
     ListingRefused { number: u8, line: usize },
 }
 
-// The first three lines, and where the vertices' lines start; or a refusal.
+// The first three lines, and the place of the first vertex's; or a refusal.
 enum Top {
     TopRead {
         slack: Time,
         wire: Length,
-        next: usize,
+        next: Place,
     },
     TopRefused {
         number: u8,
@@ -47,9 +49,9 @@ enum Top {
     },
 }
 
-// The line of a leaf, and where the next line starts; or the number of a refusal.
+// The line of a leaf, and the place of the next line; or the number of a refusal.
 enum LeafRead {
-    Leaf { parent: usize, next: usize },
+    Leaf { parent: usize, next: Place },
     LeafRefused { number: u8 },
 }
 
@@ -59,16 +61,16 @@ enum NodeRead {
         parent: usize,
         x: i64,
         y: i64,
-        next: usize,
+        next: Place,
     },
     NodeRefused {
         number: u8,
     },
 }
 
-// Where the lines of some vertices end, which the arrays hold; or a refusal.
+// The place after the lines of some vertices, which the arrays hold; or a refusal.
 enum Lines {
-    LinesRead { next: usize },
+    LinesRead { next: Place },
     LinesRefused { number: u8, line: usize },
 }
 
@@ -77,29 +79,31 @@ fn read_top(text: &[u8], n: usize) -> Top
     ensures read { λ r. ⌜ ((next : ℤ → ℕ → List ℕ → Outcome Listing) → dueTop n (now (text .entry)) next ≡ topOutcome r (now (text .entry)) next) ⌝ }
     ensures within { λ r. ⌜ TopWithin r (now (text .entry)) ⌝ }
 {
-    let Line::Spelt { numbers, next } = line_at(text, 0, b"slack=", 1) else {
+    let Taken::AsDue { numbers, next } = read_line(text, 0, 1, b"slack=", 1) else {
         return Top::TopRefused { number: 2, line: 1 };
     };
     let slack = numbers.first;
     if !is_around(slack, SLACK_LIMIT) {
         return Top::TopRefused { number: 3, line: 1 };
     }
-    let Line::Spelt { numbers, next } = line_at(text, next, b"wire=", 1) else {
-        return Top::TopRefused { number: 2, line: 2 };
+    let line = next.line;
+    let Taken::AsDue { numbers, next } = read_line(text, next.at, line, b"wire=", 1) else {
+        return Top::TopRefused { number: 2, line };
     };
     let wire = numbers.first;
     if !is_from_zero(wire, WIRE_LIMIT) {
-        return Top::TopRefused { number: 3, line: 2 };
+        return Top::TopRefused { number: 3, line };
     }
-    let Line::Spelt { numbers, next } = line_at(text, next, b"sinks=", 1) else {
-        return Top::TopRefused { number: 2, line: 3 };
+    let line = next.line;
+    let Taken::AsDue { numbers, next } = read_line(text, next.at, line, b"sinks=", 1) else {
+        return Top::TopRefused { number: 2, line };
     };
     let count = numbers.first;
     if !is_up_to(count, SINK_LIMIT) {
-        return Top::TopRefused { number: 3, line: 3 };
+        return Top::TopRefused { number: 3, line };
     }
     if count.mag as usize != n {
-        return Top::TopRefused { number: 7, line: 3 };
+        return Top::TopRefused { number: 7, line };
     }
     Top::TopRead {
         slack: Time::of(slack.value()),
@@ -126,12 +130,12 @@ fn is_sink(n: usize, v: usize) -> bool
 }
 
 // The line of leaf k, `leaf=k,P`.
-fn leaf_at(text: &[u8], at: usize, n: usize, k: usize) -> LeafRead
-    requires { ⌜ (at ≤ length (now text)) × (1 ≤ n) × (n ≤ 512) × (k ≤ 1024) ⌝ }
-    ensures read { λ r. ⌜ ((l : ℕ) (next : ℕ → List ℕ → Outcome Listing) → dueLeaf l n k (drop at (now (text .entry))) next ≡ leafOutcome r l (now (text .entry)) next) ⌝ }
-    ensures within { λ r. ⌜ LeafWithin r (now (text .entry)) ⌝ }
+fn leaf_at(text: &[u8], here: Place, n: usize, k: usize) -> LeafRead
+    requires { ⌜ (here .at ≤ length (now text)) × (here .line + 1 < 2 ^ 64) × (1 ≤ n) × (n ≤ 512) × (k ≤ 1024) ⌝ }
+    ensures read { λ r. ⌜ ((l : ℕ) (next : ℕ → List ℕ → Outcome Listing) → dueLeaf l n k (drop (here .at) (now (text .entry))) next ≡ leafOutcome r l (now (text .entry)) next) ⌝ }
+    ensures within { λ r. ⌜ LeafWithin r (here .line) (now (text .entry)) ⌝ }
 {
-    let Line::Spelt { numbers, next } = line_at(text, at, b"leaf=", 2) else {
+    let Taken::AsDue { numbers, next } = read_line(text, here.at, here.line, b"leaf=", 2) else {
         return LeafRead::LeafRefused { number: 2 };
     };
     if !is_exactly(numbers.first, k) {
@@ -149,12 +153,12 @@ fn leaf_at(text: &[u8], at: usize, n: usize, k: usize) -> LeafRead
 }
 
 // The line of node k, `node=k,P,X,Y`.
-fn node_at(text: &[u8], at: usize, n: usize, k: usize) -> NodeRead
-    requires { ⌜ (at ≤ length (now text)) × (1 ≤ n) × (n ≤ 512) × (k ≤ 1024) ⌝ }
-    ensures read { λ r. ⌜ ((l : ℕ) (next : ℕ → Point → List ℕ → Outcome Listing) → dueNode l n k (drop at (now (text .entry))) next ≡ nodeOutcome r l (now (text .entry)) next) ⌝ }
-    ensures within { λ r. ⌜ NodeWithin r (now (text .entry)) ⌝ }
+fn node_at(text: &[u8], here: Place, n: usize, k: usize) -> NodeRead
+    requires { ⌜ (here .at ≤ length (now text)) × (here .line + 1 < 2 ^ 64) × (1 ≤ n) × (n ≤ 512) × (k ≤ 1024) ⌝ }
+    ensures read { λ r. ⌜ ((l : ℕ) (next : ℕ → Point → List ℕ → Outcome Listing) → dueNode l n k (drop (here .at) (now (text .entry))) next ≡ nodeOutcome r l (now (text .entry)) next) ⌝ }
+    ensures within { λ r. ⌜ NodeWithin r (here .line) (now (text .entry)) ⌝ }
 {
-    let Line::Spelt { numbers, next } = line_at(text, at, b"node=", 4) else {
+    let Taken::AsDue { numbers, next } = read_line(text, here.at, here.line, b"node=", 4) else {
         return NodeRead::NodeRefused { number: 2 };
     };
     if !is_exactly(numbers.first, k) {
@@ -185,79 +189,79 @@ fn node_at(text: &[u8], at: usize, n: usize, k: usize) -> NodeRead
 }
 
 // The lines of the leaves, 1 to n.
-fn read_leaves(text: &[u8], from: usize, n: usize, parents: &mut [usize]) -> Lines
-    requires { ⌜ (from ≤ length (now text)) × (1 ≤ n) × (n ≤ 512) × (n < length (now parents)) ⌝ }
-    ensures read { λ r. ⌜ ((next : List ℕ → List ℕ → Outcome Listing) → readLeaves n n 1 (drop from (now (text .entry))) next ≡ linesOutcome r (now (text .entry)) (next (parentsFrom (now (parents .exit)) 1 n))) ⌝ }
-    ensures within { λ r. ⌜ LinesWithin r (now (text .entry)) ⌝ }
+fn read_leaves(text: &[u8], from: Place, n: usize, parents: &mut [usize]) -> Lines
+    requires { ⌜ (from .at ≤ length (now text)) × (from .line ≡ 4) × (1 ≤ n) × (n ≤ 512) × (n < length (now parents)) ⌝ }
+    ensures read { λ r. ⌜ ((next : List ℕ → List ℕ → Outcome Listing) → readLeaves n n 1 (drop (from .at) (now (text .entry))) next ≡ linesOutcome r (now (text .entry)) (next (parentsFrom (now (parents .exit)) 1 n))) ⌝ }
+    ensures within { λ r. ⌜ LinesWithin r (n + 4) (now (text .entry)) ⌝ }
 {
-    let mut at = from;
+    let mut here = from;
     let mut k = 1;
     while k <= n {
-        match leaf_at(text, at, n, k) {
+        match leaf_at(text, here, n, k) {
             LeafRead::Leaf { parent, next } => {
                 parents[k] = parent;
-                at = next;
+                here = next;
                 k += 1;
             }
             LeafRead::LeafRefused { number } => {
                 return Lines::LinesRefused {
                     number,
-                    line: k + 3,
+                    line: here.line,
                 };
             }
         }
     }
-    Lines::LinesRead { next: at }
+    Lines::LinesRead { next: here }
 }
 
 // The lines of the nodes, n+1 to 2n-1.
 fn read_nodes(
     text: &[u8],
-    from: usize,
+    from: Place,
     n: usize,
     parents: &mut [usize],
     xs: &mut [i64],
     ys: &mut [i64],
 ) -> Lines
-    requires { ⌜ (from ≤ length (now text)) × (1 ≤ n) × (n ≤ 512) × (2 * n ≤ length (now parents)) × (2 * n ≤ length (now xs)) × (2 * n ≤ length (now ys)) ⌝ }
-    ensures read { λ r. ⌜ ((next : List ℕ → List Point → List ℕ → Outcome Listing) → readNodes n (n - 1) (suc n) (drop from (now (text .entry))) next ≡ linesOutcome r (now (text .entry)) (next (parentsFrom (now (parents .exit)) (suc n) (n - 1)) (pointsFrom (now (xs .exit)) (now (ys .exit)) (suc n) (n - 1)))) ⌝ }
-    ensures within { λ r. ⌜ LinesWithin r (now (text .entry)) ⌝ }
+    requires { ⌜ (from .at ≤ length (now text)) × (from .line ≡ n + 4) × (1 ≤ n) × (n ≤ 512) × (2 * n ≤ length (now parents)) × (2 * n ≤ length (now xs)) × (2 * n ≤ length (now ys)) ⌝ }
+    ensures read { λ r. ⌜ ((next : List ℕ → List Point → List ℕ → Outcome Listing) → readNodes n (n - 1) (suc n) (drop (from .at) (now (text .entry))) next ≡ linesOutcome r (now (text .entry)) (next (parentsFrom (now (parents .exit)) (suc n) (n - 1)) (pointsFrom (now (xs .exit)) (now (ys .exit)) (suc n) (n - 1)))) ⌝ }
+    ensures within { λ r. ⌜ LinesWithin r (2 * n + 3) (now (text .entry)) ⌝ }
     ensures leaves { λ r. ⌜ ((v : ℕ) → v ≤ n → getD (now (parents .exit)) v 0 ≡ getD (now (parents .entry)) v 0) ⌝ }
     ensures kept { λ r. ⌜ ((v : ℕ) → v ≤ n → pointAt (now (xs .exit)) (now (ys .exit)) v ≡ pointAt (now (xs .entry)) (now (ys .entry)) v) ⌝ }
 {
-    let mut at = from;
+    let mut here = from;
     let mut k = n + 1;
     while k < 2 * n {
-        match node_at(text, at, n, k) {
+        match node_at(text, here, n, k) {
             NodeRead::Node { parent, x, y, next } => {
                 parents[k] = parent;
                 xs[k] = x;
                 ys[k] = y;
-                at = next;
+                here = next;
                 k += 1;
             }
             NodeRead::NodeRefused { number } => {
                 return Lines::LinesRefused {
                     number,
-                    line: k + 3,
+                    line: here.line,
                 };
             }
         }
     }
-    Lines::LinesRead { next: at }
+    Lines::LinesRead { next: here }
 }
 
 // The lines of all vertices, after which nothing stands.
 fn read_tree(
     text: &[u8],
-    from: usize,
+    from: Place,
     n: usize,
     parents: &mut [usize],
     xs: &mut [i64],
     ys: &mut [i64],
 ) -> Lines
-    requires { ⌜ (from ≤ length (now text)) × (1 ≤ n) × (n ≤ 512) × (2 * n ≤ length (now parents)) × (2 * n ≤ length (now xs)) × (2 * n ≤ length (now ys)) ⌝ }
-    ensures read { λ r. ⌜ ((listing : Tree → Listing) → dueTree n (drop from (now (text .entry))) listing ≡ linesOutcome r (now (text .entry)) (λ rest. value (listing (treeOf n (now (parents .exit)) (now (xs .exit)) (now (ys .exit)))))) ⌝ }
+    requires { ⌜ (from .at ≤ length (now text)) × (from .line ≡ 4) × (1 ≤ n) × (n ≤ 512) × (2 * n ≤ length (now parents)) × (2 * n ≤ length (now xs)) × (2 * n ≤ length (now ys)) ⌝ }
+    ensures read { λ r. ⌜ ((listing : Tree → Listing) → dueTree n (drop (from .at) (now (text .entry))) listing ≡ linesOutcome r (now (text .entry)) (λ rest. value (listing (treeOf n (now (parents .exit)) (now (xs .exit)) (now (ys .exit)))))) ⌝ }
     ensures kept { λ r. ⌜ ((v : ℕ) → v ≤ n → pointAt (now (xs .exit)) (now (ys .exit)) v ≡ pointAt (now (xs .entry)) (now (ys .entry)) v) ⌝ }
 {
     let leaves = read_leaves(text, from, n, parents);
@@ -268,10 +272,10 @@ fn read_tree(
     let Lines::LinesRead { next: end } = nodes else {
         return nodes;
     };
-    if end < text.len() {
+    if bytes_follow(text, end.at, end.line) {
         return Lines::LinesRefused {
             number: 4,
-            line: 2 * n + 3,
+            line: end.line,
         };
     }
     nodes

@@ -1,6 +1,6 @@
 // Reads a net text into arrays, or finds what is wrong with it first.
 ghost use mathlib.Core.Path.{_≡_};
-ghost use Prim.Native.Nat.{_≤_, _<_};
+ghost use Prim.Native.Nat.{_+_, _^_, _≤_, _<_};
 ghost use lib.ListN.{length, drop};
 ghost use Rattle.quantities.specs.Linear.{up};
 ghost use Rattle.tree.specs.Arrays.{pointAt};
@@ -16,12 +16,17 @@ use crate::limits::SINK_LIMIT;
 use crate::limits::WIRE_FACTOR_LIMIT;
 use crate::ranges::is_around;
 use crate::ranges::is_up_to;
-use crate::scan::Line;
-use crate::scan::line_at;
+use crate::reader::Place;
+use crate::reader::Taken;
+use crate::reader::bytes_follow;
+use crate::reader::read_line;
 use quantities::point::Point;
 use quantities::time::Time;
 use quantities::wire_factor::WireFactor;
 use tree::header::Header;
+
+// The line of sink 1.
+const FIRST_SINK_LINE: usize = 6;
 
 // The first five lines, and where the sinks' lines start; or the number and the line of a refusal.
 pub enum Head {
@@ -37,9 +42,9 @@ pub enum Head {
     },
 }
 
-// Where the line after a sink's starts; or the number of a refusal.
+// The place of the line after a sink's; or the number of a refusal.
 enum SinkLine {
-    SinkRead { next: usize },
+    SinkRead { next: Place },
     SinkRefused { number: u8 },
 }
 
@@ -57,7 +62,7 @@ pub fn read_head(text: &[u8]) -> Head
     if NET_LENGTH_LIMIT < text.len() {
         return Head::HeadRefused { number: 1, line: 0 };
     }
-    let Line::Spelt { numbers, next } = line_at(text, 0, b"root=", 2) else {
+    let Taken::AsDue { numbers, next } = read_line(text, 0, 1, b"root=", 2) else {
         return Head::HeadRefused { number: 2, line: 1 };
     };
     let x = numbers.first;
@@ -76,87 +81,91 @@ pub fn read_head(text: &[u8]) -> Head
 }
 
 // Line 2 and those after it.
-fn read_branch(text: &[u8], at: usize, root: Point) -> Head
-    requires { ⌜ at ≤ length (now text) ⌝ }
-    ensures { λ r. ⌜ Heads (fromBranch root (drop at (now (text .entry)))) (now (text .entry)) r ⌝ }
+fn read_branch(text: &[u8], here: Place, root: Point) -> Head
+    requires { ⌜ (here .at ≤ length (now text)) × (here .line ≡ 2) ⌝ }
+    ensures { λ r. ⌜ Heads (fromBranch root (drop (here .at) (now (text .entry)))) (now (text .entry)) r ⌝ }
 {
-    let Line::Spelt { numbers, next } = line_at(text, at, b"branch=", 1) else {
-        return Head::HeadRefused { number: 2, line: 2 };
+    let line = here.line;
+    let Taken::AsDue { numbers, next } = read_line(text, here.at, line, b"branch=", 1) else {
+        return Head::HeadRefused { number: 2, line };
     };
     let number = numbers.first;
     if !is_up_to(number, BRANCH_LIMIT) {
-        return Head::HeadRefused { number: 3, line: 2 };
+        return Head::HeadRefused { number: 3, line };
     }
     let branch = Time::of(number.value());
     read_wire(text, next, root, branch)
 }
 
 // Line 3 and those after it.
-fn read_wire(text: &[u8], at: usize, root: Point, branch: Time) -> Head
-    requires { ⌜ at ≤ length (now text) ⌝ }
-    ensures { λ r. ⌜ Heads (fromWire root (up (branch .0)) (drop at (now (text .entry)))) (now (text .entry)) r ⌝ }
+fn read_wire(text: &[u8], here: Place, root: Point, branch: Time) -> Head
+    requires { ⌜ (here .at ≤ length (now text)) × (here .line ≡ 3) ⌝ }
+    ensures { λ r. ⌜ Heads (fromWire root (up (branch .0)) (drop (here .at) (now (text .entry)))) (now (text .entry)) r ⌝ }
 {
-    let Line::Spelt { numbers, next } = line_at(text, at, b"wire=", 1) else {
-        return Head::HeadRefused { number: 2, line: 3 };
+    let line = here.line;
+    let Taken::AsDue { numbers, next } = read_line(text, here.at, line, b"wire=", 1) else {
+        return Head::HeadRefused { number: 2, line };
     };
     let number = numbers.first;
     if !is_up_to(number, WIRE_FACTOR_LIMIT) {
-        return Head::HeadRefused { number: 3, line: 3 };
+        return Head::HeadRefused { number: 3, line };
     }
     let wire = WireFactor::of(number.mag);
     read_need(text, next, root, branch, wire)
 }
 
 // Line 4 and those after it.
-fn read_need(text: &[u8], at: usize, root: Point, branch: Time, wire: WireFactor) -> Head
-    requires { ⌜ at ≤ length (now text) ⌝ }
-    ensures { λ r. ⌜ Heads (fromNeed root (up (branch .0)) (wire .0) (drop at (now (text .entry)))) (now (text .entry)) r ⌝ }
+fn read_need(text: &[u8], here: Place, root: Point, branch: Time, wire: WireFactor) -> Head
+    requires { ⌜ (here .at ≤ length (now text)) × (here .line ≡ 4) ⌝ }
+    ensures { λ r. ⌜ Heads (fromNeed root (up (branch .0)) (wire .0) (drop (here .at) (now (text .entry)))) (now (text .entry)) r ⌝ }
 {
-    let Line::Spelt { numbers, next } = line_at(text, at, b"need=", 1) else {
-        return Head::HeadRefused { number: 2, line: 4 };
+    let line = here.line;
+    let Taken::AsDue { numbers, next } = read_line(text, here.at, line, b"need=", 1) else {
+        return Head::HeadRefused { number: 2, line };
     };
     let number = numbers.first;
     if !is_around(number, NEED_LIMIT) {
-        return Head::HeadRefused { number: 3, line: 4 };
+        return Head::HeadRefused { number: 3, line };
     }
     let need = Time::of(number.value());
     read_count(text, next, root, Header { branch, wire, need })
 }
 
 // Line 5.
-fn read_count(text: &[u8], at: usize, root: Point, header: Header) -> Head
-    requires { ⌜ at ≤ length (now text) ⌝ }
-    ensures { λ r. ⌜ Heads (fromCount root (up (header .branch .0)) (header .wire .0) (header .need .0) (drop at (now (text .entry)))) (now (text .entry)) r ⌝ }
+fn read_count(text: &[u8], here: Place, root: Point, header: Header) -> Head
+    requires { ⌜ (here .at ≤ length (now text)) × (here .line ≡ 5) ⌝ }
+    ensures { λ r. ⌜ Heads (fromCount root (up (header .branch .0)) (header .wire .0) (header .need .0) (drop (here .at) (now (text .entry)))) (now (text .entry)) r ⌝ }
 {
-    let Line::Spelt { numbers, next } = line_at(text, at, b"sinks=", 1) else {
-        return Head::HeadRefused { number: 2, line: 5 };
+    let line = here.line;
+    let Taken::AsDue { numbers, next } = read_line(text, here.at, line, b"sinks=", 1) else {
+        return Head::HeadRefused { number: 2, line };
     };
     let number = numbers.first;
     if !is_up_to(number, SINK_LIMIT) {
-        return Head::HeadRefused { number: 3, line: 5 };
+        return Head::HeadRefused { number: 3, line };
     }
     let n = number.mag as usize;
     Head::HeadRead {
         header,
         root,
         n,
-        next,
+        next: next.at,
     }
 }
 
 // The line of sink s, into the place s of the arrays.
 fn read_sink(
     text: &[u8],
-    at: usize,
+    here: Place,
     s: usize,
     xs: &mut [i64],
     ys: &mut [i64],
     required: &mut [i64],
 ) -> SinkLine
-    requires { ⌜ (at ≤ length (now text)) × (s < length (now xs)) × (s < length (now ys)) × (s < length (now required)) ⌝ }
-    ensures { λ r. ⌜ SinkSays (now (text .entry)) at s (now (xs .entry)) (now (ys .entry)) (now (required .entry)) r (now (xs .exit)) (now (ys .exit)) (now (required .exit)) ⌝ }
+    requires { ⌜ (here .at ≤ length (now text)) × (here .line + 1 < 2 ^ 64) × (s < length (now xs)) × (s < length (now ys)) × (s < length (now required)) ⌝ }
+    ensures { λ r. ⌜ SinkSays (now (text .entry)) here s (now (xs .entry)) (now (ys .entry)) (now (required .entry)) r (now (xs .exit)) (now (ys .exit)) (now (required .exit)) ⌝ }
 {
-    let Line::Spelt { numbers, next } = line_at(text, at, b"sink=", 3) else {
+    let Taken::AsDue { numbers, next } = read_line(text, here.at, here.line, b"sink=", 3) else {
         return SinkLine::SinkRefused { number: 2 };
     };
     let x = numbers.first;
@@ -189,26 +198,29 @@ fn read_sinks(
     requires { ⌜ (start ≤ length (now text)) × (n ≤ 512) × (n < length (now xs)) × (n < length (now ys)) × (n < length (now required)) ⌝ }
     ensures { λ r. ⌜ ((h : Header) → fromSinks h (pointAt (now (xs .entry)) (now (ys .entry)) 0) n (drop start (now (text .entry))) ≡ netOutcome h n r (now (xs .exit)) (now (ys .exit)) (now (required .exit))) ⌝ }
 {
-    let mut at = start;
+    let mut here = Place {
+        at: start,
+        line: FIRST_SINK_LINE,
+    };
     let mut done = 0;
     while done < n {
-        match read_sink(text, at, done + 1, xs, ys, required) {
+        match read_sink(text, here, done + 1, xs, ys, required) {
             SinkLine::SinkRead { next } => {
-                at = next;
+                here = next;
             }
             SinkLine::SinkRefused { number } => {
                 return NetRead::NetRefused {
                     number,
-                    line: done + 6,
+                    line: here.line,
                 };
             }
         }
         done += 1;
     }
-    if at < text.len() {
+    if bytes_follow(text, here.at, here.line) {
         return NetRead::NetRefused {
             number: 4,
-            line: n + 6,
+            line: here.line,
         };
     }
     NetRead::NetHeld

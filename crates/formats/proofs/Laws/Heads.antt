@@ -48,12 +48,13 @@ module _ {key : List ℕ} {ranges : List Range} {s : List ℕ} {at : ℕ} {ns : 
   pub heads-in : (l : ℕ) (cont : List ℤ → List ℕ → Outcome Net) (r : Head) → Heads (cont (values ranges (listed ns)) (drop next s)) s r → Heads (due l key ranges (drop at s) cont) s r
   heads-in l cont r h = record { reads = taken-due l cont ∙ h .reads; within = h .within }
 
-module _ (l : ℕ) (key : List ℕ) (ranges : List Range) (s : List ℕ) (at : ℕ) (cont : List ℤ → List ℕ → Outcome Net) where
-  pub heads-wrong : Misspelled ≡ lineAt at (lineIn key (length ranges) (drop at s)) → Heads (due l key ranges (drop at s) cont) s (HeadRefused 2 l)
-  heads-wrong e = record { reads = due-wrong l key ranges s at cont e; within = tt }
+-- a refusal on the line that the reader has come to, line l
+module _ (l : ℕ) (key : List ℕ) (ranges : List Range) (s : List ℕ) (at : ℕ) (cont : List ℤ → List ℕ → Outcome Net) (line : ℕ) (line-is : line ≡ l) where
+  pub heads-wrong : Misspelled ≡ lineAt at (lineIn key (length ranges) (drop at s)) → Heads (due l key ranges (drop at s) cont) s (HeadRefused 2 line)
+  heads-wrong e = record { reads = due-wrong l key ranges s at cont e ∙ ap (refused 2) (sym line-is); within = tt }
 
-  pub heads-out : length ranges ≤ 4 → (ns : Numbers) (next : ℕ) → Spelt ns next ≡ lineAt at (lineIn key (length ranges) (drop at s)) → Failed ranges (listed ns) → Heads (due l key ranges (drop at s) cont) s (HeadRefused 3 l)
-  heads-out few ns next e f = record { reads = due-out l key ranges s at cont few ns next e f; within = tt }
+  pub heads-out : length ranges ≤ 4 → (ns : Numbers) (next : ℕ) → Spelt ns next ≡ lineAt at (lineIn key (length ranges) (drop at s)) → Failed ranges (listed ns) → Heads (due l key ranges (drop at s) cont) s (HeadRefused 3 line)
+  heads-out few ns next e f = record { reads = due-out l key ranges s at cont few ns next e f ∙ ap (refused 3) (sym line-is); within = tt }
 
 -- ---- each line of the head, and those after it
 

@@ -16,6 +16,7 @@ use Rattle.tree.specs.Lists.{range}
 use Rattle.tree.specs.Arrays.{pointAt, parentsOf, treeOf}
 use Rattle.tree.specs.Tree.{Tree}
 use Rattle.tree.proofs.Laws.Tables.{table-cong}
+use Rattle.formats.specs.declared.reader.Place.{Place}
 use Rattle.formats.specs.Reading.{Outcome, value, refused, ended}
 use Rattle.formats.specs.ListingText.{Listing, listingLengthLimit, readLeaves, readNodes, readListing}
 use Rattle.formats.specs.ListingReader.{dueTop, topOutcome, dueLeaf, dueNode, parentsFrom, pointsFrom, linesOutcome, dueTree}
@@ -85,11 +86,13 @@ module _ (n : ℕ) (s : List ℕ) (from : ℕ) (parents : List ℕ) where
         ∙ e (k + 3) (λ p r. readLeaves n (n - k) (suc k) r (λ ps q. next (parentsFrom parents 1 (k - 1) ++ (p ∷ ps)) q))
         ∙ (λ i. readLeaves n (j i) (m i) (drop end s) (λ ps r. next (next-more (parentsFrom parents 1 (k - 1)) (parentsFrom (set parents k p) 1 (k + 1 - 1)) p more ps i) r))
 
-    pub leaves-refused : k ≤ n → (number : ℕ)
+    pub leaves-refused : k ≤ n → (number line : ℕ) → line ≡ k + 3
         → ((l : ℕ) (next : ℕ → List ℕ → Outcome Listing) → dueLeaf l n k (drop at s) next ≡ refused number l)
-        → (next : List ℕ → List ℕ → Outcome Listing) → readLeaves n n 1 (drop from s) next ≡ refused number (k + 3)
-    leaves-refused h number e next =
-        leaf-due h next ∙ e (k + 3) (λ p r. readLeaves n (n - k) (suc k) r (λ ps q. next (parentsFrom parents 1 (k - 1) ++ (p ∷ ps)) q))
+        → (next : List ℕ → List ℕ → Outcome Listing) → readLeaves n n 1 (drop from s) next ≡ refused number line
+    leaves-refused h number line line-is e next =
+        leaf-due h next
+        ∙ e (k + 3) (λ p r. readLeaves n (n - k) (suc k) r (λ ps q. next (parentsFrom parents 1 (k - 1) ++ (p ∷ ps)) q))
+        ∙ ap (refused number) (sym line-is)
 
     pub leaves-all : k ≡ n + 1 → (next : List ℕ → List ℕ → Outcome Listing) → readLeaves n n 1 (drop from s) next ≡ next (parentsFrom parents 1 n) (drop at s)
     leaves-all h next =
@@ -156,10 +159,10 @@ module _ (n : ℕ) (s : List ℕ) (from : ℕ) (parents : List ℕ) (xs ys : Lis
         (next-more (pointsFrom xs ys (suc n) (k - suc n)) (pointsFrom (set xs k x) (set ys k y) (suc n) (k + 1 - suc n)) point points rest i)
         r))
 
-    pub nodes-refused : k < 2 * n → (number : ℕ)
+    pub nodes-refused : k < 2 * n → (number line : ℕ) → line ≡ k + 3
         → ((l : ℕ) (next : ℕ → Point → List ℕ → Outcome Listing) → dueNode l n k (drop at s) next ≡ refused number l)
-        → (next : List ℕ → List Point → List ℕ → Outcome Listing) → readNodes n (n - 1) (suc n) (drop from s) next ≡ refused number (k + 3)
-    nodes-refused h number e next = node-due h next ∙ e (k + 3) (after next)
+        → (next : List ℕ → List Point → List ℕ → Outcome Listing) → readNodes n (n - 1) (suc n) (drop from s) next ≡ refused number line
+    nodes-refused h number line line-is e next = node-due h next ∙ e (k + 3) (after next) ∙ ap (refused number) (sym line-is)
 
     pub nodes-all : k ≡ 2 * n → (next : List ℕ → List Point → List ℕ → Outcome Listing)
         → readNodes n (n - 1) (suc n) (drop from s) next ≡ next (parentsFrom parents (suc n) (n - 1)) (pointsFrom xs ys (suc n) (n - 1)) (drop at s)
@@ -193,9 +196,9 @@ module _ (n : ℕ) (s : List ℕ) (from : ℕ) (first : Lines) (ps : List ℕ)
   pub tree-no-leaves : (number line : ℕ) → first ≡ LinesRefused number line → (f : List ℕ → Outcome Listing) → dueTree n (drop from s) listing ≡ linesOutcome first s f
   tree-no-leaves number line e f = leaves after-leaves ∙ refused-same first number line e s (after-leaves (parentsFrom ps 1 n)) f
 
-  module _ (at : ℕ) (e : first ≡ LinesRead at) (second : Lines) (qs : List ℕ) (xs ys : List ℤ)
+  module _ (here : Place) (e : first ≡ LinesRead here) (second : Lines) (qs : List ℕ) (xs ys : List ℤ)
       (nodes : (next : List ℕ → List Point → List ℕ → Outcome Listing)
-      → readNodes n (n - 1) (suc n) (drop at s) next ≡ linesOutcome second s (next (parentsFrom qs (suc n) (n - 1)) (pointsFrom xs ys (suc n) (n - 1)))) where
+      → readNodes n (n - 1) (suc n) (drop (here .at) s) next ≡ linesOutcome second s (next (parentsFrom qs (suc n) (n - 1)) (pointsFrom xs ys (suc n) (n - 1)))) where
     abbrev after-nodes : List ℕ → Outcome Listing
     after-nodes q = ended (2 * n + 3) q (listing (record { parents = parentsFrom ps 1 n ++ parentsFrom qs (suc n) (n - 1); points = pointsFrom xs ys (suc n) (n - 1) }))
 
@@ -208,11 +211,11 @@ module _ (n : ℕ) (s : List ℕ) (from : ℕ) (first : Lines) (ps : List ℕ)
     pub tree-no-nodes : (number line : ℕ) → second ≡ LinesRefused number line → (f : List ℕ → Outcome Listing) → dueTree n (drop from s) listing ≡ linesOutcome second s f
     tree-no-nodes number line g f = tree-due ∙ refused-same second number line g s after-nodes f
 
-    module _ (end : ℕ) (g : second ≡ LinesRead end) where
-      pub tree-more : end < length s → dueTree n (drop from s) listing ≡ refused 4 (2 * n + 3)
-      tree-more h = tree-due ∙ ap (λ o. linesOutcome o s after-nodes) g ∙ ended-more (2 * n + 3) s end _ h
+    module _ (end : Place) (g : second ≡ LinesRead end) where
+      pub tree-more : end .line ≡ 2 * n + 3 → end .at < length s → dueTree n (drop from s) listing ≡ refused 4 (end .line)
+      tree-more line-is h = tree-due ∙ ap (λ o. linesOutcome o s after-nodes) g ∙ ended-more (2 * n + 3) s (end .at) _ h ∙ ap (refused 4) (sym line-is)
 
-      pub tree-all : 1 ≤ n → length s ≤ end → Kept 0 n ps qs → dueTree n (drop from s) listing ≡ value (listing (treeOf n qs xs ys))
+      pub tree-all : 1 ≤ n → length s ≤ end .at → Kept 0 n ps qs → dueTree n (drop from s) listing ≡ value (listing (treeOf n qs xs ys))
       tree-all some h kept =
           let m : n + (n - 1) ≡ 2 * n - 1 = omega arith in
           let a : 1 + n ≡ suc n = omega arith in
@@ -222,7 +225,7 @@ module _ (n : ℕ) (s : List ℕ) (from : ℕ) (first : Lines) (ps : List ℕ)
           let all : parentsFrom ps 1 n ++ parentsFrom qs (suc n) (n - 1) ≡ parentsOf n qs = ap (λ l. l ++ parentsFrom qs (suc n) (n - 1)) same ∙ joined in
           tree-due
           ∙ ap (λ o. linesOutcome o s after-nodes) g
-          ∙ ended-all (2 * n + 3) s end _ h
+          ∙ ended-all (2 * n + 3) s (end .at) _ h
           ∙ (λ i. value (listing (record { parents = all i; points = pointsFrom xs ys (suc n) (n - 1) })))
 
 -- ---- the whole text
@@ -243,8 +246,8 @@ module _ (n : ℕ) (s : List ℕ) (short : length s ≤ listingLengthLimit) (top
   pub listing-no-top : (number line : ℕ) → top ≡ TopRefused number line → readListing n s ≡ refused number line
   listing-no-top number line e = listing-due ∙ ap (λ o. topOutcome o s after-top) e
 
-  module _ (slack : Time) (wire : Length) (at : ℕ) (e : top ≡ TopRead slack wire at) (lines : Lines) (T : Tree)
-      (tree : (listing : Tree → Listing) → dueTree n (drop at s) listing ≡ linesOutcome lines s (λ rest. value (listing T))) where
+  module _ (slack : Time) (wire : Length) (here : Place) (e : top ≡ TopRead slack wire here) (lines : Lines) (T : Tree)
+      (tree : (listing : Tree → Listing) → dueTree n (drop (here .at) s) listing ≡ linesOutcome lines s (λ rest. value (listing T))) where
     abbrev read-all : List ℕ → Outcome Listing
     read-all rest = value (record { slack = slack .0; wire = wire .0; tree = T })
 
@@ -254,5 +257,5 @@ module _ (n : ℕ) (s : List ℕ) (short : length s ≤ listingLengthLimit) (top
     pub listing-no-tree : (number line : ℕ) → lines ≡ LinesRefused number line → readListing n s ≡ refused number line
     listing-no-tree number line g = tree-read ∙ ap (λ o. linesOutcome o s read-all) g
 
-    pub listing-all : (end : ℕ) → lines ≡ LinesRead end → readListing n s ≡ value (record { slack = slack .0; wire = wire .0; tree = T })
+    pub listing-all : (end : Place) → lines ≡ LinesRead end → readListing n s ≡ value (record { slack = slack .0; wire = wire .0; tree = T })
     listing-all end g = tree-read ∙ ap (λ o. linesOutcome o s read-all) g

@@ -1,6 +1,6 @@
 -- The lines of the sinks, read one by one into the places 1 to n of the arrays. Assumes nothing.
 use Prim.Native.Nat.{ℕ, zero, suc, _+_, _-_, _≤_, _<_}
-use mathlib.Core.Path.{_≡_, ap, ap₂, sym, _∙_}
+use mathlib.Core.Path.{_≡_, refl, ap, ap₂, sym, _∙_}
 use mathlib.Core.List.{List, [], _∷_, _++_, map, append-assoc, append-nil, map-append}
 use native.Mathlib.Omega.{arith}
 use lib.ListN.{length, getD, drop, set, length-set, drop-of-length-le}
@@ -14,6 +14,7 @@ use Rattle.tree.specs.Arrays.{pointAt, netOf}
 use Rattle.tree.proofs.Laws.Tables.{table-cong}
 use Rattle.formats.specs.Reading.{Outcome, value, refused, due, ended}
 use Rattle.formats.specs.NetText.{sinkKey, sinkRanges, sinkOf, readSinks}
+use Rattle.formats.specs.declared.reader.Place.{Place}
 use Rattle.formats.specs.Readers.{netFrom, fromSinks, SinkStored}
 
 -- the sink that the arrays hold at a place, and those at the places 1 to k
@@ -62,22 +63,24 @@ module _ (xs ys required : List ℤ) (x y a : ℤ) (k i : ℕ) (e : i ≡ suc k)
       let u : range 1 i ≡ range 1 k ++ (i ∷ []) = ap (range 1) e ∙ range-snoc 1 k ∙ ap (λ (v : ℕ). range 1 k ++ (v ∷ [])) (omega arith) in
       ap (map f) u ∙ map-append f (range 1 k) (i ∷ []) ∙ ap₂ _++_ (table-cong f (heldSink xs ys required) 1 k held-other) (ap (λ (v : Sink). v ∷ []) held-same)
 
--- `done` sinks are read, and the next line starts at `at`
-pub record Sinking (root : Point) (n : ℕ) (s : List ℕ) (start : ℕ) (xs ys required : List ℤ) (at done : ℕ) : Type 0 where
-  pub within : at ≤ length s
+-- `done` sinks are read, and the next line stands at `here`
+pub record Sinking (root : Point) (n : ℕ) (s : List ℕ) (start : ℕ) (xs ys required : List ℤ) (here : Place) (done : ℕ) : Type 0 where
+  pub within : here .at ≤ length s
+  pub line-is : here .line ≡ 6 + done
   pub few : done ≤ n
   pub xs-long : n < length xs
   pub ys-long : n < length ys
   pub required-long : n < length required
   pub root-is : root ≡ pointAt xs ys 0
-  pub reads : (h : Header) → fromSinks h root n (drop start s) ≡ restSinks h root n (n - done) (6 + done) (drop at s) (heldSinks xs ys required done)
+  pub reads : (h : Header) → fromSinks h root n (drop start s) ≡ restSinks h root n (n - done) (6 + done) (drop (here .at) s) (heldSinks xs ys required done)
 
 module _ (root : Point) (n : ℕ) (s : List ℕ) (start : ℕ) (xs ys required : List ℤ) where
-  pub sinking-start : start ≤ length s → n < length xs → n < length ys → n < length required → root ≡ pointAt xs ys 0 → Sinking root n s start xs ys required start 0
+  pub sinking-start : start ≤ length s → n < length xs → n < length ys → n < length required → root ≡ pointAt xs ys 0 → Sinking root n s start xs ys required (record { at = start; line = 6 }) 0
   sinking-start p px py pr r =
       let e : n ≡ n - 0 = omega arith in
       record {
         within = p;
+        line-is = refl;
         few = omega arith;
         xs-long = px;
         ys-long = py;
@@ -86,21 +89,21 @@ module _ (root : Point) (n : ℕ) (s : List ℕ) (start : ℕ) (xs ys required :
         reads = λ h. ap (λ (k : ℕ). restSinks h root n k 6 (drop start s) []) e;
       }
 
-  module _ (at done : ℕ) (g : Sinking root n s start xs ys required at done) where
-    sinking-due : (h : Header) → done < n → fromSinks h root n (drop start s) ≡ due (6 + done) sinkKey sinkRanges (drop at s) (moreSinks h root n done (heldSinks xs ys required done))
+  module _ (here : Place) (done : ℕ) (g : Sinking root n s start xs ys required here done) where
+    sinking-due : (h : Header) → done < n → fromSinks h root n (drop start s) ≡ due (6 + done) sinkKey sinkRanges (drop (here .at) s) (moreSinks h root n done (heldSinks xs ys required done))
     sinking-due h p =
         let e : n - done ≡ suc (n - suc done) = omega arith in
         g .reads h
-        ∙ ap (λ (k : ℕ). restSinks h root n k (6 + done) (drop at s) (heldSinks xs ys required done)) e
-        ∙ rest-more h root n (n - suc done) (6 + done) (drop at s) (heldSinks xs ys required done)
+        ∙ ap (λ (k : ℕ). restSinks h root n k (6 + done) (drop (here .at) s) (heldSinks xs ys required done)) e
+        ∙ rest-more h root n (n - suc done) (6 + done) (drop (here .at) s) (heldSinks xs ys required done)
 
-    pub sinking-refused : done < n → (k : ℕ) → ((l : ℕ) (cont : List ℤ → List ℕ → Outcome Net) → due l sinkKey sinkRanges (drop at s) cont ≡ refused k l) → (h : Header) → fromSinks h root n (drop start s) ≡ refused k (done + 6)
-    sinking-refused p k e h = sinking-due h p ∙ e (6 + done) _ ∙ ap (refused k) (omega arith)
+    pub sinking-refused : done < n → (k : ℕ) → ((l : ℕ) (cont : List ℤ → List ℕ → Outcome Net) → due l sinkKey sinkRanges (drop (here .at) s) cont ≡ refused k l) → (h : Header) → fromSinks h root n (drop start s) ≡ refused k (here .line)
+    sinking-refused p k e h = sinking-due h p ∙ e (6 + done) _ ∙ ap (refused k) (sym (g .line-is))
 
-    pub sinking-more : done < n → (next : ℕ) (xs′ ys′ required′ : List ℤ) → SinkStored s at (done + 1) xs ys required next xs′ ys′ required′ → Sinking root n s start xs′ ys′ required′ next (done + 1)
+    pub sinking-more : done < n → (next : Place) (xs′ ys′ required′ : List ℤ) → SinkStored s here (done + 1) xs ys required next xs′ ys′ required′ → Sinking root n s start xs′ ys′ required′ next (done + 1)
     sinking-more p next xs′ ys′ required′ t = go (t .x) (t .y) (t .a) (λ h. t .reads (6 + done) _) (t .xs-is) (t .ys-is) (t .required-is)
       where
-        go : (x y a : ℤ) → ((h : Header) → due (6 + done) sinkKey sinkRanges (drop at s) (moreSinks h root n done (heldSinks xs ys required done)) ≡ moreSinks h root n done (heldSinks xs ys required done) (x ∷ (y ∷ (a ∷ []))) (drop next s)) → xs′ ≡ set xs (done + 1) x → ys′ ≡ set ys (done + 1) y → required′ ≡ set required (done + 1) a → Sinking root n s start xs′ ys′ required′ next (done + 1)
+        go : (x y a : ℤ) → ((h : Header) → due (6 + done) sinkKey sinkRanges (drop (here .at) s) (moreSinks h root n done (heldSinks xs ys required done)) ≡ moreSinks h root n done (heldSinks xs ys required done) (x ∷ (y ∷ (a ∷ []))) (drop (next .at) s)) → xs′ ≡ set xs (done + 1) x → ys′ ≡ set ys (done + 1) y → required′ ≡ set required (done + 1) a → Sinking root n s start xs′ ys′ required′ next (done + 1)
         go x y a e ex ey er =
             let m = held-more xs ys required x y a done (done + 1) (omega arith) (omega (arith, g .xs-long)) (omega (arith, g .ys-long)) (omega (arith, g .required-long)) in
             let d : 0 ≡ done + 1 → ⊥ = λ w. omega arith in
@@ -108,24 +111,26 @@ module _ (root : Point) (n : ℕ) (s : List ℕ) (start : ℕ) (xs ys required :
             let e₂ : suc (6 + done) ≡ 6 + (done + 1) = omega arith in
             rw (ex, ey, er) (record {
               within = t .within;
+              line-is = omega (arith, t .line-is, g .line-is);
               few = omega arith;
               xs-long = rw length-set (g .xs-long);
               ys-long = rw length-set (g .ys-long);
               required-long = rw length-set (g .required-long);
               root-is = g .root-is ∙ sym (λ j. record { x = getD-set-other xs (done + 1) 0 x (pos 0) d j; y = getD-set-other ys (done + 1) 0 y (pos 0) d j });
-              reads = λ h. sinking-due h p ∙ e h ∙ (λ j. restSinks h root n (e₁ j) (e₂ j) (drop next s) (sym m j));
+              reads = λ h. sinking-due h p ∙ e h ∙ (λ j. restSinks h root n (e₁ j) (e₂ j) (drop (next .at) s) (sym m j));
             })
 
-    pub sinking-left : n ≤ done → at < length s → (h : Header) → fromSinks h root n (drop start s) ≡ refused 4 (n + 6)
+    pub sinking-left : n ≤ done → here .at < length s → (h : Header) → fromSinks h root n (drop start s) ≡ refused 4 (here .line)
     sinking-left p q h =
         let e : n - done ≡ 0 = omega arith in
-        g .reads h ∙ rw (e, drop-cons s at 0 q)
+        let l : n + 6 ≡ here .line = omega (arith, g .line-is, g .few) in
+        g .reads h ∙ rw (e, drop-cons s (here .at) 0 q) (ap (refused 4) l)
 
-    pub sinking-end : n ≤ done → length s ≤ at → (h : Header) → fromSinks h root n (drop start s) ≡ value (netOf h n xs ys required)
+    pub sinking-end : n ≤ done → length s ≤ here .at → (h : Header) → fromSinks h root n (drop start s) ≡ value (netOf h n xs ys required)
     sinking-end p q h =
         let e : n - done ≡ 0 = omega arith in
         let d : done ≡ n = omega (arith, g .few) in
-        let f : drop at s ≡ [] = drop-of-length-le s q in
+        let f : drop (here .at) s ≡ [] = drop-of-length-le s q in
         g .reads h ∙ rw (e, f, append-nil, g .root-is, d)
 
 -- the root at place 0

@@ -1,4 +1,4 @@
-use Prim.Native.Nat.{ℕ, _*_, _-_}
+use Prim.Native.Nat.{ℕ, _+_, _*_, _-_}
 use mathlib.Core.Path.{_≡_, sym, ap, _∙_}
 use mathlib.Core.Bool.{true}
 use mathlib.Core.Logic.{inl}
@@ -15,7 +15,9 @@ use Rattle.formats.specs.ListingText.{Listing, leafKey, parentRange, noS
 use Rattle.formats.specs.Scanning.{lineAt}
 use Rattle.formats.specs.declared.scan.Numbers.{Numbers}
 use Rattle.formats.specs.declared.scan.Line.the-variants.{Spelt}
+use Rattle.formats.specs.declared.reader.Place.{Place}
 use Rattle.formats.proofs.Laws.Due.{value-abs, from-narrow, Tested, Compared, next-line, dueFor-wrong, dueFor-other, dueFor-out}
+use Rattle.formats.proofs.Laws.Taking.{wrong-line, right-line}
 use Rattle.formats.proofs.Laws.DueFor.{vertex-sink, vertex-in}
 use Rattle.formats.proofs.read_listing.leaf_at.Statement.{statement}
 use Rattle.formats.proofs.read_listing.leaf_at.Tie as tie
@@ -29,14 +31,14 @@ text t = now (start t .args .text)
 abbrev numbers : tie.After-known-told → Numbers
 numbers t = t .before .numbers .given .0 .0
 
-abbrev end : tie.After-known-told → ℕ
+abbrev end : tie.After-known-told → Place
 end t = t .before .numbers .given .0 .1 .0
 
-slice-aggregate-line-at : tie.Need-slice-aggregate-line-at
-slice-aggregate-line-at c = search needs
+slice-aggregate-read-line : tie.Need-slice-aggregate-read-line
+slice-aggregate-read-line c = search needs
 
-line-at-requires : tie.Need-line-at-requires
-line-at-requires c κs = search needs
+read-line-requires : tie.Need-read-line-requires
+read-line-requires c κs = search needs
 
 enum-known-numbers : tie.Need-enum-known-numbers
 enum-known-numbers c = search needs
@@ -52,13 +54,19 @@ returns : tie.Need-returns
 returns c = (
   λ l next.
       let b = c .before .before .before .before .before in
-      dueFor-wrong l leafKey (b .args .k) (parentRange (b .args .n) ∷ []) (now (b .args .text)) (b .args .at) (rest l (b .args .n) next)
-      (sym (c .enum-told .given .1) ∙ c .before .before .line-at .ensures),
+      dueFor-wrong l leafKey (b .args .k) (parentRange (b .args .n) ∷ []) (now (b .args .text)) (b .args .here .at) (rest l (b .args .n) next)
+      (wrong-line leafKey 2 (now (b .args .text)) (b .args .here .at) (b .args .here .line) (sym (c .enum-told .given .1) ∙ c .before .before .read-line .ensures)),
   tt,
 )
 
-there : (t : tie.After-known-told) → Spelt (numbers t) (end t) ≡ lineAt (start t .args .at) (lineIn leafKey 2 (drop (start t .args .at) (text t)))
-there t = sym (t .before .numbers .given .1) ∙ t .before .before .before .line-at .ensures
+-- the line, and the number of the next one
+taken : (t : tie.After-known-told)
+    → (Spelt (numbers t) (end t .at) ≡ lineAt (start t .args .here .at) (lineIn leafKey 2 (drop (start t .args .here .at) (text t)))) × (end t .line ≡ start t .args .here .line + 1)
+taken t =
+    right-line leafKey 2 (text t) (start t .args .here .at) (start t .args .here .line) (numbers t) (end t) (sym (t .before .numbers .given .1) ∙ t .before .before .before .read-line .ensures)
+
+there : (t : tie.After-known-told) → Spelt (numbers t) (end t .at) ≡ lineAt (start t .args .here .at) (lineIn leafKey 2 (drop (start t .args .here .at) (text t)))
+there t = taken t .0
 
 is-exactly-requires : tie.Need-is-exactly-requires
 is-exactly-requires c κs = search needs
@@ -67,8 +75,8 @@ returns-2 : tie.Need-returns-2
 returns-2 c = (
   λ l next.
       let t = c .before .before in
-      dueFor-other l leafKey (start t .args .k) (parentRange (start t .args .n) ∷ []) (text t) (start t .args .at) (rest l (start t .args .n) next)
-      (omega arith) (numbers t) (end t) (there t)
+      dueFor-other l leafKey (start t .args .k) (parentRange (start t .args .n) ∷ []) (text t) (start t .args .here .at) (rest l (start t .args .n) next)
+      (omega arith) (numbers t) (end t .at) (there t)
       (λ z h. sym (not-true _ (c .if1 .taken)) ∙ c .before .is-exactly .ensures z h),
   tt,
 )
@@ -90,8 +98,8 @@ returns-3 c = (
   λ l next.
       let e = c .before .before .before in
       let t = e .before .before in
-      dueFor-out l leafKey (start t .args .k) (parentRange (start t .args .n) ∷ []) (text t) (start t .args .at) (rest l (start t .args .n) next)
-      (omega arith) (numbers t) (end t) (there t) (same e)
+      dueFor-out l leafKey (start t .args .k) (parentRange (start t .args .n) ∷ []) (text t) (start t .args .here .at) (rest l (start t .args .n) next)
+      (omega arith) (numbers t) (end t .at) (there t) (same e)
       (inl (λ z h. sym (not-true _ (c .if2 .taken)) ∙ c .before .is-from-zero .ensures z h)),
   tt,
 )
@@ -108,8 +116,8 @@ returns-4 c = (
       let i = c .before .before in
       let e = i .before .before .before in
       let t = e .before .before in
-      vertex-sink l leafKey (start t .args .n) (start t .args .k) [] (text t) (start t .args .at) (λ zs r. next (natAbs (at zs 0)) r)
-      (omega arith) (numbers t) (end t) (there t) (same e)
+      vertex-sink l leafKey (start t .args .n) (start t .args .k) [] (text t) (start t .args .here .at) (λ zs r. next (natAbs (at zs 0)) r)
+      (omega arith) (numbers t) (end t .at) (there t) (same e)
       (from-narrow (2 * start t .args .n - 1) (omega arith) 0, tt) (inside i, tt)
       (sym (c .if3 .taken) ∙ c .before .is-sink .ensures),
   tt,
@@ -121,19 +129,19 @@ returns-5 c =
     let e = i .before .before .before in
     let t = e .before .before in (
       λ l next.
-          vertex-in l leafKey (start t .args .n) (start t .args .k) [] (text t) (start t .args .at) (λ zs r. next (natAbs (at zs 0)) r)
-          (omega arith) (numbers t) (end t) (there t) (same e) (from-narrow (2 * start t .args .n - 1) (omega arith) 0, tt) (inside i, tt)
+          vertex-in l leafKey (start t .args .n) (start t .args .k) [] (text t) (start t .args .here .at) (λ zs r. next (natAbs (at zs 0)) r)
+          (omega arith) (numbers t) (end t .at) (there t) (same e) (from-narrow (2 * start t .args .n - 1) (omega arith) 0, tt) (inside i, tt)
           (sym (c .if3 .left) ∙ c .before .is-sink .ensures)
-          ∙ ap (λ (p : ℕ). next p (drop (end t) (text t))) (value-abs (numbers t .second)),
-      next-line leafKey 2 (text t) (start t .args .at) (numbers t) (end t) (there t) (start t .pre .0) .1,
+          ∙ ap (λ (p : ℕ). next p (drop (end t .at) (text t))) (value-abs (numbers t .second)),
+      (next-line leafKey 2 (text t) (start t .args .here .at) (numbers t) (end t .at) (there t) (start t .pre .0) .1, taken t .1),
     )
 
 pub leaf-at-spec : {M : Type 1} → statement M
 leaf-at-spec =
     tie.close
     (tie.spec
-    slice-aggregate-line-at
-    line-at-requires
+    slice-aggregate-read-line
+    read-line-requires
     enum-known-numbers
     enum-told
     returns

@@ -1,4 +1,4 @@
-use Prim.Native.Nat.{ℕ, _*_, _-_, _≤_}
+use Prim.Native.Nat.{ℕ, _+_, _*_, _-_, _≤_}
 use mathlib.Core.Path.{_≡_, sym, _∙_}
 use mathlib.Core.Bool.{true}
 use mathlib.Core.Logic.{inl, inr}
@@ -20,7 +20,9 @@ use Rattle.formats.specs.ListingText.{Listing, nodeKey, parentRange, noS
 use Rattle.formats.specs.Scanning.{lineAt}
 use Rattle.formats.specs.declared.scan.Numbers.{Numbers}
 use Rattle.formats.specs.declared.scan.Line.the-variants.{Spelt}
+use Rattle.formats.specs.declared.reader.Place.{Place}
 use Rattle.formats.proofs.Laws.Due.{value-abs, around-narrow, from-narrow, others, AllNarrow, AllSmall, Passed, Compared, next-line, dueFor-wrong, dueFor-other, dueFor-out, dueFor-small}
+use Rattle.formats.proofs.Laws.Taking.{wrong-line, right-line}
 use Rattle.formats.proofs.Laws.DueFor.{vertex-sink, vertex-in}
 use Rattle.formats.proofs.read_listing.node_at.Statement.{statement}
 use Rattle.formats.proofs.read_listing.node_at.Tie as tie
@@ -34,14 +36,14 @@ text t = now (start t .args .text)
 abbrev numbers : tie.After-known-told → Numbers
 numbers t = t .before .numbers .given .0 .0
 
-abbrev end : tie.After-known-told → ℕ
+abbrev end : tie.After-known-told → Place
 end t = t .before .numbers .given .0 .1 .0
 
-slice-aggregate-line-at : tie.Need-slice-aggregate-line-at
-slice-aggregate-line-at c = search needs
+slice-aggregate-read-line : tie.Need-slice-aggregate-read-line
+slice-aggregate-read-line c = search needs
 
-line-at-requires : tie.Need-line-at-requires
-line-at-requires c κs = search needs
+read-line-requires : tie.Need-read-line-requires
+read-line-requires c κs = search needs
 
 enum-known-numbers : tie.Need-enum-known-numbers
 enum-known-numbers c = search needs
@@ -66,13 +68,19 @@ returns : tie.Need-returns
 returns c = (
   λ l next.
       let b = c .before .before .before .before .before in
-      dueFor-wrong l nodeKey (b .args .k) (ranges (b .args .n)) (now (b .args .text)) (b .args .at) (rest l (b .args .n) next)
-      (sym (c .enum-told .given .1) ∙ c .before .before .line-at .ensures),
+      dueFor-wrong l nodeKey (b .args .k) (ranges (b .args .n)) (now (b .args .text)) (b .args .here .at) (rest l (b .args .n) next)
+      (wrong-line nodeKey 4 (now (b .args .text)) (b .args .here .at) (b .args .here .line) (sym (c .enum-told .given .1) ∙ c .before .before .read-line .ensures)),
   tt,
 )
 
-there : (t : tie.After-known-told) → Spelt (numbers t) (end t) ≡ lineAt (start t .args .at) (lineIn nodeKey 4 (drop (start t .args .at) (text t)))
-there t = sym (t .before .numbers .given .1) ∙ t .before .before .before .line-at .ensures
+-- the line, and the number of the next one
+taken : (t : tie.After-known-told)
+    → (Spelt (numbers t) (end t .at) ≡ lineAt (start t .args .here .at) (lineIn nodeKey 4 (drop (start t .args .here .at) (text t)))) × (end t .line ≡ start t .args .here .line + 1)
+taken t =
+    right-line nodeKey 4 (text t) (start t .args .here .at) (start t .args .here .line) (numbers t) (end t) (sym (t .before .numbers .given .1) ∙ t .before .before .before .read-line .ensures)
+
+there : (t : tie.After-known-told) → Spelt (numbers t) (end t .at) ≡ lineAt (start t .args .here .at) (lineIn nodeKey 4 (drop (start t .args .here .at) (text t)))
+there t = taken t .0
 
 is-exactly-requires : tie.Need-is-exactly-requires
 is-exactly-requires c κs = search needs
@@ -81,8 +89,8 @@ returns-2 : tie.Need-returns-2
 returns-2 c = (
   λ l next.
       let t = c .before .before in
-      dueFor-other l nodeKey (start t .args .k) (ranges (start t .args .n)) (text t) (start t .args .at) (rest l (start t .args .n) next)
-      (omega arith) (numbers t) (end t) (there t) (λ z h. sym (not-true _ (c .if1 .taken)) ∙ c .before .is-exactly .ensures z h),
+      dueFor-other l nodeKey (start t .args .k) (ranges (start t .args .n)) (text t) (start t .args .here .at) (rest l (start t .args .n) next)
+      (omega arith) (numbers t) (end t .at) (there t) (λ z h. sym (not-true _ (c .if1 .taken)) ∙ c .before .is-exactly .ensures z h),
   tt,
 )
 
@@ -103,8 +111,8 @@ returns-3 c = (
   λ l next.
       let e = c .before .before .before in
       let t = e .before .before in
-      dueFor-out l nodeKey (start t .args .k) (ranges (start t .args .n)) (text t) (start t .args .at) (rest l (start t .args .n) next)
-      (omega arith) (numbers t) (end t) (there t) (same e) (inl (λ z h. sym (not-true _ (c .if2 .taken)) ∙ c .before .is-from-zero .ensures z h)),
+      dueFor-out l nodeKey (start t .args .k) (ranges (start t .args .n)) (text t) (start t .args .here .at) (rest l (start t .args .n) next)
+      (omega arith) (numbers t) (end t .at) (there t) (same e) (inl (λ z h. sym (not-true _ (c .if2 .taken)) ∙ c .before .is-from-zero .ensures z h)),
   tt,
 )
 
@@ -116,8 +124,8 @@ returns-4 c = (
   λ l next.
       let e = c .before .before .before .before .before .before in
       let t = e .before .before in
-      dueFor-out l nodeKey (start t .args .k) (ranges (start t .args .n)) (text t) (start t .args .at) (rest l (start t .args .n) next)
-      (omega arith) (numbers t) (end t) (there t) (same e) (inr (inl (λ z h. sym (not-true _ (c .if3 .taken)) ∙ c .before .is-around .ensures z h))),
+      dueFor-out l nodeKey (start t .args .k) (ranges (start t .args .n)) (text t) (start t .args .here .at) (rest l (start t .args .n) next)
+      (omega arith) (numbers t) (end t .at) (there t) (same e) (inr (inl (λ z h. sym (not-true _ (c .if3 .taken)) ∙ c .before .is-around .ensures z h))),
   tt,
 )
 
@@ -129,8 +137,8 @@ returns-5 c = (
   λ l next.
       let e = c .before .before .before .before .before .before .before .before .before in
       let t = e .before .before in
-      dueFor-out l nodeKey (start t .args .k) (ranges (start t .args .n)) (text t) (start t .args .at) (rest l (start t .args .n) next)
-      (omega arith) (numbers t) (end t) (there t) (same e) (inr (inr (inl (λ z h. sym (not-true _ (c .if4 .taken)) ∙ c .before .is-around2 .ensures z h)))),
+      dueFor-out l nodeKey (start t .args .k) (ranges (start t .args .n)) (text t) (start t .args .here .at) (rest l (start t .args .n) next)
+      (omega arith) (numbers t) (end t .at) (there t) (same e) (inr (inr (inl (λ z h. sym (not-true _ (c .if4 .taken)) ∙ c .before .is-around2 .ensures z h)))),
   tt,
 )
 
@@ -154,8 +162,8 @@ returns-6 c = (
       let i = c .before .before in
       let e = i .before .before .before .before .before .before .before .before .before in
       let t = e .before .before in
-      vertex-sink l nodeKey (start t .args .n) (start t .args .k) (around positionLimit ∷ (around positionLimit ∷ [])) (text t) (start t .args .at) (next-of next)
-      (omega arith) (numbers t) (end t) (there t) (same e) (narrow (start t .args .n) (start t .pre .2)) (inside i)
+      vertex-sink l nodeKey (start t .args .n) (start t .args .k) (around positionLimit ∷ (around positionLimit ∷ [])) (text t) (start t .args .here .at) (next-of next)
+      (omega arith) (numbers t) (end t .at) (there t) (same e) (narrow (start t .args .n) (start t .pre .3)) (inside i)
       (sym (c .if5 .taken) ∙ c .before .is-sink .ensures),
   tt,
 )
@@ -163,8 +171,8 @@ returns-6 c = (
 small : (c : tie.Else4) → AllSmall (ranges (start (c .before .before .before .before .before .before .before .before .before .before .before) .args .n)) (others (numbers (c .before .before .before .before .before .before .before .before .before .before .before)))
 small c =
     let t = c .before .before .before .before .before .before .before .before .before .before .before in
-    dueFor-small {A = ℕ} 0 nodeKey (start t .args .k) (ranges (start t .args .n)) (text t) (start t .args .at) (λ zs r. refused 0 0)
-    (omega arith) (numbers t) (end t) (there t) (narrow (start t .args .n) (start t .pre .2)) (inside c)
+    dueFor-small {A = ℕ} 0 nodeKey (start t .args .k) (ranges (start t .args .n)) (text t) (start t .args .here .at) (λ zs r. refused 0 0)
+    (omega arith) (numbers t) (end t .at) (there t) (narrow (start t .args .n) (start t .pre .3)) (inside c)
 
 value-requires : tie.Need-value-requires
 value-requires c κs = small (c .before .before) .1 .0
@@ -180,8 +188,8 @@ returns-7 c =
     let x = c .before .value in
     let y = c .value2 in (
       λ l next.
-          vertex-in l nodeKey (start t .args .n) (start t .args .k) (around positionLimit ∷ (around positionLimit ∷ [])) (text t) (start t .args .at) (next-of next)
-          (omega arith) (numbers t) (end t) (there t) (same e) (narrow (start t .args .n) (start t .pre .2)) (inside i)
+          vertex-in l nodeKey (start t .args .n) (start t .args .k) (around positionLimit ∷ (around positionLimit ∷ [])) (text t) (start t .args .here .at) (next-of next)
+          (omega arith) (numbers t) (end t .at) (there t) (same e) (narrow (start t .args .n) (start t .pre .3)) (inside i)
           (sym (c .before .before .if5 .left) ∙ c .before .before .before .is-sink .ensures)
           ∙ (λ j. next
           (value-abs (numbers t .second) j)
@@ -189,16 +197,16 @@ returns-7 c =
             x = sym (toZ-ofZ (fit (x .result) (x .ok)) ∙ x .ensures) j;
             y = sym (toZ-ofZ (fit (y .result) (y .ok)) ∙ y .ensures) j;
           })
-          (drop (end t) (text t))),
-      next-line nodeKey 4 (text t) (start t .args .at) (numbers t) (end t) (there t) (start t .pre .0) .1,
+          (drop (end t .at) (text t))),
+      (next-line nodeKey 4 (text t) (start t .args .here .at) (numbers t) (end t .at) (there t) (start t .pre .0) .1, taken t .1),
     )
 
 pub node-at-spec : {M : Type 1} → statement M
 node-at-spec =
     tie.close
     (tie.spec
-    slice-aggregate-line-at
-    line-at-requires
+    slice-aggregate-read-line
+    read-line-requires
     enum-known-numbers
     enum-told
     returns

@@ -5,22 +5,23 @@ use lib.ListN.{length, length-set}
 use denote.Ref.{now}
 use borrow.Author.Needs.{needs}
 use Rattle.formats.specs.ListingReader.{leafOutcome, LeafWithin}
+use Rattle.formats.specs.declared.read_listing.LeafRead.the-variants.{Leaf}
 use Rattle.formats.proofs.Laws.ListingLines.{LeavesTo, leaves-start, leaves-more, leaves-refused, leaves-all}
 use Rattle.formats.proofs.read_listing.read_leaves.Statement.{statement}
 use Rattle.formats.proofs.read_listing.read_leaves.Tie as tie
 
 abbrev Inv-loop : tie.InvT-loop
-Inv-loop text from n parents₀ at₀ k₀ parents at k =
-    (1 ≤ k) × (k ≤ n + 1) × (at ≤ length text) × (length parents ≡ length parents₀) × LeavesTo n text from parents at k
+Inv-loop text n parents₀ here₀ k₀ parents here k =
+    (1 ≤ k) × (k ≤ n + 1) × (here .at ≤ length text) × (here .line ≡ k + 3) × (length parents ≡ length parents₀) × LeavesTo n text (here₀ .at) parents (here .at) k
 
 abbrev μ-loop : tie.MeasureT-loop
-μ-loop text from n parents₀ at₀ k₀ parents at k = n + 1 - k
+μ-loop text n parents₀ here₀ k₀ parents here k = n + 1 - k
 
 loop-holds : tie.Need-loop-holds Inv-loop μ-loop
 loop-holds c =
     let b = c .before .before in
     let a = b .args in
-    (omega arith, omega arith, b .pre .0, refl, leaves-start (a .n) (now (a .text)) (a .from) (now (a .parents)))
+    (omega arith, omega arith, b .pre .0, b .pre .1, refl, leaves-start (a .n) (now (a .text)) (a .from .at) (now (a .parents)))
 
 leaf-at-requires : tie.Need-leaf-at-requires Inv-loop μ-loop
 leaf-at-requires c κs = omega arith
@@ -45,20 +46,19 @@ loop-again c =
     let r = c .before .before .before .leaf-at in
     let w = c .before .before .before .before .before .loop in
     let a = c .before .before .before .before .before .before .before .before .args in
-    let g = c .before .parent .given in (
+    let g = c .before .parent .given in
+    let m : LeafWithin (Leaf (g .0 .0) (g .0 .1 .0)) (w .here .line) (now (a .text)) = subst (λ o. LeafWithin o (w .here .line) (now (a .text))) (g .1) (r .ensures .1) in (
       omega arith,
       omega arith,
-      subst (λ o. LeafWithin o (now (a .text))) (g .1) (r .ensures .1),
-      simp length-set (w .inv .3),
-      leaves-more (a .n) (now (a .text)) (a .from) (w .parents) (w .at) (w .k) (w .inv .4) (omega arith) (omega arith) (omega arith) (g .0 .0) (g .0 .1 .0)
+      m .0,
+      omega (arith, m .1, w .inv .3),
+      simp length-set (w .inv .4),
+      leaves-more (a .n) (now (a .text)) (a .from .at) (w .parents) (w .here .at) (w .k) (w .inv .5) (omega arith) (omega arith) (omega arith) (g .0 .0) (g .0 .1 .0 .at)
           (λ l next. r .ensures .0 l next ∙ ap (λ o. leafOutcome o l (now (a .text)) next) (g .1)),
     )
 
 enum-known-number : tie.Need-enum-known-number Inv-loop μ-loop
 enum-known-number c = search needs
-
-add-t14 : tie.Need-add-t14 Inv-loop μ-loop
-add-t14 c = omega arith
 
 same-length : tie.Need-same-length Inv-loop μ-loop
 same-length c = search needs
@@ -69,7 +69,7 @@ returns c =
     let w = c .before .before .before .before .before .loop in
     let a = c .before .before .before .before .before .before .before .before .args in
     let g = c .before .number .given in (
-      leaves-refused (a .n) (now (a .text)) (a .from) (w .parents) (w .at) (w .k) (w .inv .4) (omega arith) (g .0 .0)
+      leaves-refused (a .n) (now (a .text)) (a .from .at) (w .parents) (w .here .at) (w .k) (w .inv .5) (omega arith) (g .0 .0) (w .here .line) (w .inv .3)
           (λ l next. r .ensures .0 l next ∙ ap (λ o. leafOutcome o l (now (a .text)) next) (g .1)),
       tt,
     )
@@ -81,7 +81,7 @@ returns-2 : tie.Need-returns-2 Inv-loop μ-loop
 returns-2 c =
     let w = c .before .loop in
     let a = c .before .before .before .before .args in
-    (leaves-all (a .n) (now (a .text)) (a .from) (w .parents) (w .at) (w .k) (w .inv .4) (omega arith), w .inv .2)
+    (leaves-all (a .n) (now (a .text)) (a .from .at) (w .parents) (w .here .at) (w .k) (w .inv .5) (omega arith), (w .inv .2, omega (arith, w .inv .3)))
 
 pub read-leaves-spec : {M : Type 1} → statement M
 read-leaves-spec =
@@ -98,7 +98,6 @@ read-leaves-spec =
     loop-less
     loop-again
     enum-known-number
-    add-t14
     same-length
     returns
     same-length-2

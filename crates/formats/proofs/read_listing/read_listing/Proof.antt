@@ -3,6 +3,7 @@ use denote.Ref.{now}
 use borrow.Author.Needs.{needs}
 use Rattle.tree.specs.Arrays.{treeOf}
 use Rattle.formats.specs.ListingReader.{TopWithin}
+use Rattle.formats.specs.declared.read_listing.Top.the-variants.{TopRead}
 use Rattle.formats.proofs.Laws.ListingLines.{listing-long, listing-no-top, listing-no-tree, listing-all}
 use Rattle.formats.proofs.read_listing.read_listing.Statement.{statement}
 use Rattle.formats.proofs.read_listing.read_listing.Tie as tie
@@ -26,7 +27,8 @@ read-tree-requires c κs =
     let t = c .before .before .before .before .before .before .read-top in
     let s = c .before .before .before .before .before .before .before .before .before .before in
     let g = c .before .before .before .before .slack .given in
-    (subst (λ o. TopWithin o (now (s .args .text))) (g .1) (t .ensures .1), s .pre .0, s .pre .1, search needs, search needs, search needs)
+    let m : TopWithin (TopRead (g .0 .0) (g .0 .1 .0) (g .0 .1 .1 .0)) (now (s .args .text)) = subst (λ o. TopWithin o (now (s .args .text))) (g .1) (t .ensures .1) in
+    (m .0, m .1, s .pre .0, s .pre .1, search needs, search needs, search needs)
 
 enum-known-number-2 : tie.Need-enum-known-number-2
 enum-known-number-2 c = search needs

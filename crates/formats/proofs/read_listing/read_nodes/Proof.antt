@@ -1,4 +1,4 @@
-use Prim.Native.Nat.{_*_, _-_, _≤_, _<_}
+use Prim.Native.Nat.{_+_, _*_, _-_, _≤_, _<_}
 use mathlib.Core.Path.{_≡_, refl, sym, ap, subst, _∙_}
 use native.Mathlib.Omega.{arith}
 use lib.ListN.{length, drop, length-set}
@@ -8,19 +8,20 @@ use denote.Ref.{now}
 use borrow.Author.Needs.{needs}
 use Rattle.quantities.specs.Linear.{rd, fit}
 use Rattle.formats.specs.ListingReader.{nodeOutcome, NodeWithin}
+use Rattle.formats.specs.declared.read_listing.NodeRead.the-variants.{Node}
 use Rattle.formats.proofs.Laws.ListingLines.{NodesTo, Kept, kept-more, nodes-start, nodes-more, nodes-refused, nodes-all}
 use Rattle.formats.proofs.read_listing.read_nodes.Statement.{statement}
 use Rattle.formats.proofs.read_listing.read_nodes.Tie as tie
 
 abbrev Inv-loop : tie.InvT-loop
-Inv-loop text from n parents₀ xs₀ ys₀ at₀ k₀ parents xs ys at k =
-    (n < k) × (k ≤ 2 * n) × (at ≤ length text)
+Inv-loop text n parents₀ xs₀ ys₀ here₀ k₀ parents xs ys here k =
+    (n < k) × (k ≤ 2 * n) × (here .at ≤ length text) × (here .line ≡ k + 3)
     × ((length parents ≡ length parents₀) × (length xs ≡ length xs₀) × (length ys ≡ length ys₀))
     × (Kept 0 n parents₀ parents × Kept (pos 0) n xs₀ xs × Kept (pos 0) n ys₀ ys)
-    × NodesTo n text from parents xs ys at k
+    × NodesTo n text (here₀ .at) parents xs ys (here .at) k
 
 abbrev μ-loop : tie.MeasureT-loop
-μ-loop text from n parents₀ xs₀ ys₀ at₀ k₀ parents xs ys at k = 2 * n - k
+μ-loop text n parents₀ xs₀ ys₀ here₀ k₀ parents xs ys here k = 2 * n - k
 
 add-k : tie.Need-add-k Inv-loop μ-loop
 add-k c = omega arith
@@ -32,9 +33,10 @@ loop-holds c =
       omega arith,
       omega arith,
       b .pre .0,
+      omega (arith, b .pre .1),
       (refl, refl, refl),
       (λ v h. refl, λ v h. refl, λ v h. refl),
-      nodes-start (a .n) (now (a .text)) (a .from) (now (a .parents)) (now (a .xs)) (now (a .ys)) (omega arith),
+      nodes-start (a .n) (now (a .text)) (a .from .at) (now (a .parents)) (now (a .xs)) (now (a .ys)) (omega arith),
     )
 
 mul-loop : tie.Need-mul-loop Inv-loop μ-loop
@@ -77,29 +79,28 @@ loop-again c =
     let a = c .before .before .before .before .before .before .before .before .args in
     let g = c .before .parent .given in
     let x = toZ-ofZ (fit (g .0 .1 .0) (c .known-told .given .1 .0 .1)) in
-    let y = toZ-ofZ (fit (g .0 .1 .1 .0) (c .known-told .given .1 .1 .0 .1)) in (
+    let y = toZ-ofZ (fit (g .0 .1 .1 .0) (c .known-told .given .1 .1 .0 .1)) in
+    let m : NodeWithin (Node (g .0 .0) (g .0 .1 .0) (g .0 .1 .1 .0) (g .0 .1 .1 .1 .0)) (w .here .line) (now (a .text)) = subst (λ o. NodeWithin o (w .here .line) (now (a .text))) (g .1) (r .ensures .1) in (
       omega arith,
       omega arith,
-      subst (λ o. NodeWithin o (now (a .text))) (g .1) (r .ensures .1),
-      (simp length-set (w .inv .3 .0), simp length-set (w .inv .3 .1), simp length-set (w .inv .3 .2)),
+      m .0,
+      omega (arith, m .1, w .inv .3),
+      (simp length-set (w .inv .4 .0), simp length-set (w .inv .4 .1), simp length-set (w .inv .4 .2)),
       (
-        kept-more 0 (a .n) (w .k) (now (a .parents)) (w .parents) (g .0 .0) (w .inv .0) (w .inv .4 .0),
-        kept-more (pos 0) (a .n) (w .k) (now (a .xs)) (w .xs) (rd (g .0 .1 .0)) (w .inv .0) (w .inv .4 .1),
-        kept-more (pos 0) (a .n) (w .k) (now (a .ys)) (w .ys) (rd (g .0 .1 .1 .0)) (w .inv .0) (w .inv .4 .2),
+        kept-more 0 (a .n) (w .k) (now (a .parents)) (w .parents) (g .0 .0) (w .inv .0) (w .inv .5 .0),
+        kept-more (pos 0) (a .n) (w .k) (now (a .xs)) (w .xs) (rd (g .0 .1 .0)) (w .inv .0) (w .inv .5 .1),
+        kept-more (pos 0) (a .n) (w .k) (now (a .ys)) (w .ys) (rd (g .0 .1 .1 .0)) (w .inv .0) (w .inv .5 .2),
       ),
-      nodes-more (a .n) (now (a .text)) (a .from) (w .parents) (w .xs) (w .ys) (w .at) (w .k) (w .inv .5)
-          (omega arith) (omega arith) (omega arith) (omega arith) (omega arith) (g .0 .0) (rd (g .0 .1 .0)) (rd (g .0 .1 .1 .0)) (g .0 .1 .1 .1 .0)
+      nodes-more (a .n) (now (a .text)) (a .from .at) (w .parents) (w .xs) (w .ys) (w .here .at) (w .k) (w .inv .6)
+          (omega arith) (omega arith) (omega arith) (omega arith) (omega arith) (g .0 .0) (rd (g .0 .1 .0)) (rd (g .0 .1 .1 .0)) (g .0 .1 .1 .1 .0 .at)
           (λ l next.
           r .ensures .0 l next
           ∙ ap (λ o. nodeOutcome o l (now (a .text)) next) (g .1)
-          ∙ (λ i. next (g .0 .0) (record { x = sym x i; y = sym y i }) (drop (g .0 .1 .1 .1 .0) (now (a .text))))),
+          ∙ (λ i. next (g .0 .0) (record { x = sym x i; y = sym y i }) (drop (g .0 .1 .1 .1 .0 .at) (now (a .text))))),
     )
 
 enum-known-number : tie.Need-enum-known-number Inv-loop μ-loop
 enum-known-number c = search needs
-
-add-t21 : tie.Need-add-t21 Inv-loop μ-loop
-add-t21 c = omega arith
 
 same-length : tie.Need-same-length Inv-loop μ-loop
 same-length c = omega arith
@@ -116,9 +117,9 @@ returns c =
     let w = c .before .before .before .before .before .loop in
     let a = c .before .before .before .before .before .before .before .before .args in
     let g = c .before .number .given in (
-      nodes-refused (a .n) (now (a .text)) (a .from) (w .parents) (w .xs) (w .ys) (w .at) (w .k) (w .inv .5) (omega arith) (g .0 .0)
+      nodes-refused (a .n) (now (a .text)) (a .from .at) (w .parents) (w .xs) (w .ys) (w .here .at) (w .k) (w .inv .6) (omega arith) (g .0 .0) (w .here .line) (w .inv .3)
           (λ l next. r .ensures .0 l next ∙ ap (λ o. nodeOutcome o l (now (a .text)) next) (g .1)),
-      (tt, (w .inv .4 .0, λ v h i. record { x = w .inv .4 .1 v h i; y = w .inv .4 .2 v h i })),
+      (tt, (w .inv .5 .0, λ v h i. record { x = w .inv .5 .1 v h i; y = w .inv .5 .2 v h i })),
     )
 
 same-length-4 : tie.Need-same-length-4 Inv-loop μ-loop
@@ -134,8 +135,8 @@ returns-2 : tie.Need-returns-2 Inv-loop μ-loop
 returns-2 c =
     let w = c .before .loop in
     let a = c .before .before .before .before .args in (
-      nodes-all (a .n) (now (a .text)) (a .from) (w .parents) (w .xs) (w .ys) (w .at) (w .k) (w .inv .5) (omega arith),
-      (w .inv .2, (w .inv .4 .0, λ v h i. record { x = w .inv .4 .1 v h i; y = w .inv .4 .2 v h i })),
+      nodes-all (a .n) (now (a .text)) (a .from .at) (w .parents) (w .xs) (w .ys) (w .here .at) (w .k) (w .inv .6) (omega arith),
+      ((w .inv .2, omega (arith, w .inv .3)), (w .inv .5 .0, λ v h i. record { x = w .inv .5 .1 v h i; y = w .inv .5 .2 v h i })),
     )
 
 pub read-nodes-spec : {M : Type 1} → statement M
@@ -159,7 +160,6 @@ read-nodes-spec =
     loop-less
     loop-again
     enum-known-number
-    add-t21
     same-length
     same-length-2
     same-length-3

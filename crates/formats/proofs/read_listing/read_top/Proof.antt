@@ -1,4 +1,4 @@
-use Prim.Native.Nat.{ℕ, _≤_, _<_}
+use Prim.Native.Nat.{ℕ, _+_, _≤_, _<_}
 use mathlib.Core.Path.{_≡_, sym, ap, _∙_}
 use mathlib.Core.Bool.{true}
 use mathlib.Core.Logic.{inl}
@@ -21,7 +21,9 @@ use Rattle.formats.specs.Scanning.{magnitudeCap, lineAt}
 use Rattle.formats.specs.declared.number.Number.{Number}
 use Rattle.formats.specs.declared.scan.Numbers.{Numbers}
 use Rattle.formats.specs.declared.scan.Line.the-variants.{Spelt}
+use Rattle.formats.specs.declared.reader.Place.{Place}
 use Rattle.formats.proofs.Laws.Due.{valueOf, value-abs, around-narrow, from-narrow, Tested, next-line, due-wrong, due-out, due-in, due-small}
+use Rattle.formats.proofs.Laws.Taking.{wrong-line, right-line}
 use Rattle.formats.proofs.read_listing.read_top.Statement.{statement}
 use Rattle.formats.proofs.read_listing.read_top.Tie as tie
 
@@ -39,7 +41,7 @@ numbers t = t .before .numbers .given .0 .0
 abbrev slack : tie.After-known-told → Number
 slack t = numbers t .first
 
-abbrev end : tie.After-known-told → ℕ
+abbrev end : tie.After-known-told → Place
 end t = t .before .numbers .given .0 .1 .0
 
 abbrev line-1 : tie.After-known-told2 → tie.After-known-told
@@ -51,7 +53,7 @@ numbers-2 t = t .before .numbers2 .given .0 .0
 abbrev wire : tie.After-known-told2 → Number
 wire t = numbers-2 t .first
 
-abbrev end-2 : tie.After-known-told2 → ℕ
+abbrev end-2 : tie.After-known-told2 → Place
 end-2 t = t .before .numbers2 .given .0 .1 .0
 
 abbrev line-2 : tie.After-known-told3 → tie.After-known-told2
@@ -63,7 +65,7 @@ numbers-3 t = t .before .numbers3 .given .0 .0
 abbrev count : tie.After-known-told3 → Number
 count t = numbers-3 t .first
 
-abbrev end-3 : tie.After-known-told3 → ℕ
+abbrev end-3 : tie.After-known-told3 → Place
 end-3 t = t .before .numbers3 .given .0 .1 .0
 
 -- ---- what follows each of them
@@ -82,11 +84,11 @@ after-start n next zs r = due 2 wireKey (fromZero wireLimit ∷ []) r (after-sla
 
 -- ---- the line of the slack
 
-slice-aggregate-line-at : tie.Need-slice-aggregate-line-at
-slice-aggregate-line-at c = search needs
+slice-aggregate-read-line : tie.Need-slice-aggregate-read-line
+slice-aggregate-read-line c = search needs
 
-line-at-requires : tie.Need-line-at-requires
-line-at-requires c κs = search needs
+read-line-requires : tie.Need-read-line-requires
+read-line-requires c κs = search needs
 
 enum-known-numbers : tie.Need-enum-known-numbers
 enum-known-numbers c = search needs
@@ -98,15 +100,20 @@ returns : tie.Need-returns
 returns c = (
   λ next.
       let a = c .before .before .before .before .before .args in
-      due-wrong 1 slackKey (around slackLimit ∷ []) (now (a .text)) 0 (after-start (a .n) next) (sym (c .enum-told .given .1) ∙ c .before .before .line-at .ensures),
+      due-wrong 1 slackKey (around slackLimit ∷ []) (now (a .text)) 0 (after-start (a .n) next)
+      (wrong-line slackKey 1 (now (a .text)) 0 1 (sym (c .enum-told .given .1) ∙ c .before .before .read-line .ensures)),
   tt,
 )
 
-there : (t : tie.After-known-told) → Spelt (numbers t) (end t) ≡ lineAt 0 (lineIn slackKey 1 (text t))
-there t = sym (t .before .numbers .given .1) ∙ t .before .before .before .line-at .ensures
+-- the line, and the number of the next one
+taken : (t : tie.After-known-told) → (Spelt (numbers t) (end t .at) ≡ lineAt 0 (lineIn slackKey 1 (text t))) × (end t .line ≡ 2)
+taken t = right-line slackKey 1 (text t) 0 1 (numbers t) (end t) (sym (t .before .numbers .given .1) ∙ t .before .before .before .read-line .ensures)
 
-within : (t : tie.After-known-told) → end t ≤ length (text t)
-within t = next-line slackKey 1 (text t) 0 (numbers t) (end t) (there t) (omega arith) .1
+there : (t : tie.After-known-told) → Spelt (numbers t) (end t .at) ≡ lineAt 0 (lineIn slackKey 1 (text t))
+there t = taken t .0
+
+within : (t : tie.After-known-told) → end t .at ≤ length (text t)
+within t = next-line slackKey 1 (text t) 0 (numbers t) (end t .at) (there t) (omega arith) .1
 
 is-around-requires : tie.Need-is-around-requires
 is-around-requires c κs = search needs
@@ -115,7 +122,7 @@ returns-2 : tie.Need-returns-2
 returns-2 c = (
   λ next.
       let t = c .before .before .before in
-      due-out 1 slackKey (around slackLimit ∷ []) (text t) 0 (after-start (start t .args .n) next) (omega arith) (numbers t) (end t) (there t)
+      due-out 1 slackKey (around slackLimit ∷ []) (text t) 0 (after-start (start t .args .n) next) (omega arith) (numbers t) (end t .at) (there t)
       (inl (λ z h. sym (not-true _ (c .if1 .taken)) ∙ c .before .is-around .ensures z h)),
   tt,
 )
@@ -126,21 +133,23 @@ slack-in c z h = sym (not-false _ (c .if1 .left)) ∙ c .before .is-around .ensu
 module _ (t : tie.After-known-told) (tested : Tested true (around slackLimit) (slack t)) where
   slack-small : slack t .mag < magnitudeCap
   slack-small =
-      due-small {A = ℕ} 1 slackKey (around slackLimit ∷ []) (text t) 0 (λ zs r. refused 0 0) (omega arith) (numbers t) (end t) (there t)
+      due-small {A = ℕ} 1 slackKey (around slackLimit ∷ []) (text t) 0 (λ zs r. refused 0 0) (omega arith) (numbers t) (end t .at) (there t)
       (around-narrow slackLimit (omega arith), tt) (tested, tt) .0
 
-  slack-read : (next : Next) → dueTop (start t .args .n) (text t) next ≡ due 2 wireKey (fromZero wireLimit ∷ []) (drop (end t) (text t)) (after-slack (start t .args .n) next (valueOf (slack t)))
+  slack-read : (next : Next) → dueTop (start t .args .n) (text t) next ≡ due 2 wireKey (fromZero wireLimit ∷ []) (drop (end t .at) (text t)) (after-slack (start t .args .n) next (valueOf (slack t)))
   slack-read next =
-      due-in 1 slackKey (around slackLimit ∷ []) (text t) 0 (after-start (start t .args .n) next) (omega arith) (numbers t) (end t) (there t)
+      due-in 1 slackKey (around slackLimit ∷ []) (text t) 0 (after-start (start t .args .n) next) (omega arith) (numbers t) (end t .at) (there t)
       (around-narrow slackLimit (omega arith), tt) (tested, tt)
 
 -- ---- the line of the wire
 
-slice-aggregate-line-at-2 : tie.Need-slice-aggregate-line-at-2
-slice-aggregate-line-at-2 c = search needs
+slice-aggregate-read-line-2 : tie.Need-slice-aggregate-read-line-2
+slice-aggregate-read-line-2 c = search needs
 
-line-at-requires-2 : tie.Need-line-at-requires-2
-line-at-requires-2 c κs = (within (c .before .before .before .before), omega arith, omega arith)
+read-line-requires-2 : tie.Need-read-line-requires-2
+read-line-requires-2 c κs =
+    let t = c .before .before .before .before in
+    (within t, omega (arith, taken t .1), omega arith, omega arith)
 
 enum-known-numbers-2 : tie.Need-enum-known-numbers-2
 enum-known-numbers-2 c = search needs
@@ -154,16 +163,26 @@ returns-3 c = (
       let i = c .before .before .before .before in
       let u = i .before .before .before in
       slack-read u (slack-in i) next
-      ∙ due-wrong 2 wireKey (fromZero wireLimit ∷ []) (text u) (end u) (after-slack (start u .args .n) next (valueOf (slack u)))
-      (sym (c .enum-told2 .given .1) ∙ c .before .before .line-at2 .ensures),
+      ∙ due-wrong 2 wireKey (fromZero wireLimit ∷ []) (text u) (end u .at) (after-slack (start u .args .n) next (valueOf (slack u)))
+      (wrong-line wireKey 1 (text u) (end u .at) (end u .line) (sym (c .enum-told2 .given .1) ∙ c .before .before .read-line2 .ensures))
+      ∙ ap (refused 2) (sym (taken u .1)),
   tt,
 )
 
-there-2 : (t : tie.After-known-told2) → Spelt (numbers-2 t) (end-2 t) ≡ lineAt (end (line-1 t)) (lineIn wireKey 1 (drop (end (line-1 t)) (text (line-1 t))))
-there-2 t = sym (t .before .numbers2 .given .1) ∙ t .before .before .before .line-at2 .ensures
+taken-2 : (t : tie.After-known-told2)
+    → (Spelt (numbers-2 t) (end-2 t .at) ≡ lineAt (end (line-1 t) .at) (lineIn wireKey 1 (drop (end (line-1 t) .at) (text (line-1 t))))) × (end-2 t .line ≡ end (line-1 t) .line + 1)
+taken-2 t =
+    let u = line-1 t in
+    right-line wireKey 1 (text u) (end u .at) (end u .line) (numbers-2 t) (end-2 t) (sym (t .before .numbers2 .given .1) ∙ t .before .before .before .read-line2 .ensures)
 
-within-2 : (t : tie.After-known-told2) → end-2 t ≤ length (text (line-1 t))
-within-2 t = next-line wireKey 1 (text (line-1 t)) (end (line-1 t)) (numbers-2 t) (end-2 t) (there-2 t) (within (line-1 t)) .1
+there-2 : (t : tie.After-known-told2) → Spelt (numbers-2 t) (end-2 t .at) ≡ lineAt (end (line-1 t) .at) (lineIn wireKey 1 (drop (end (line-1 t) .at) (text (line-1 t))))
+there-2 t = taken-2 t .0
+
+line-3 : (t : tie.After-known-told2) → end-2 t .line ≡ 3
+line-3 t = omega (arith, taken-2 t .1, taken (line-1 t) .1)
+
+within-2 : (t : tie.After-known-told2) → end-2 t .at ≤ length (text (line-1 t))
+within-2 t = next-line wireKey 1 (text (line-1 t)) (end (line-1 t) .at) (numbers-2 t) (end-2 t .at) (there-2 t) (within (line-1 t)) .1
 
 is-from-zero-requires : tie.Need-is-from-zero-requires
 is-from-zero-requires c κs = search needs
@@ -174,31 +193,34 @@ returns-4 c = (
       let t = c .before .before .before in
       let u = line-1 t in
       slack-read u (slack-in (t .before .before .before .before .before)) next
-      ∙ due-out 2 wireKey (fromZero wireLimit ∷ []) (text u) (end u) (after-slack (start u .args .n) next (valueOf (slack u))) (omega arith)
-      (numbers-2 t) (end-2 t) (there-2 t) (inl (λ z h. sym (not-true _ (c .if2 .taken)) ∙ c .before .is-from-zero .ensures z h)),
+      ∙ due-out 2 wireKey (fromZero wireLimit ∷ []) (text u) (end u .at) (after-slack (start u .args .n) next (valueOf (slack u))) (omega arith)
+      (numbers-2 t) (end-2 t .at) (there-2 t) (inl (λ z h. sym (not-true _ (c .if2 .taken)) ∙ c .before .is-from-zero .ensures z h))
+      ∙ ap (refused 3) (sym (taken u .1)),
   tt,
 )
 
 wire-read : (c : tie.Else2) (next : Next)
     → dueTop (start (line-1 (c .before .before .before)) .args .n) (text (line-1 (c .before .before .before))) next
-    ≡ due 3 sinksKey (upTo sinkLimit ∷ []) (drop (end-2 (c .before .before .before)) (text (line-1 (c .before .before .before))))
+    ≡ due 3 sinksKey (upTo sinkLimit ∷ []) (drop (end-2 (c .before .before .before) .at) (text (line-1 (c .before .before .before))))
     (after-wire (start (line-1 (c .before .before .before)) .args .n) next (valueOf (slack (line-1 (c .before .before .before)))) (wire (c .before .before .before) .mag))
 wire-read c next =
     let t = c .before .before .before in
     let u = line-1 t in
     slack-read u (slack-in (t .before .before .before .before .before)) next
-    ∙ due-in 2 wireKey (fromZero wireLimit ∷ []) (text u) (end u) (after-slack (start u .args .n) next (valueOf (slack u))) (omega arith)
-    (numbers-2 t) (end-2 t) (there-2 t) (from-narrow wireLimit (omega arith) 0, tt)
+    ∙ due-in 2 wireKey (fromZero wireLimit ∷ []) (text u) (end u .at) (after-slack (start u .args .n) next (valueOf (slack u))) (omega arith)
+    (numbers-2 t) (end-2 t .at) (there-2 t) (from-narrow wireLimit (omega arith) 0, tt)
     (λ z h. sym (not-false _ (c .if2 .left)) ∙ c .before .is-from-zero .ensures z h, tt)
-    ∙ ap (λ w. due 3 sinksKey (upTo sinkLimit ∷ []) (drop (end-2 t) (text u)) (after-wire (start u .args .n) next (valueOf (slack u)) w)) (value-abs (wire t))
+    ∙ ap (λ w. due 3 sinksKey (upTo sinkLimit ∷ []) (drop (end-2 t .at) (text u)) (after-wire (start u .args .n) next (valueOf (slack u)) w)) (value-abs (wire t))
 
 -- ---- the line of the number of sinks
 
-slice-aggregate-line-at-3 : tie.Need-slice-aggregate-line-at-3
-slice-aggregate-line-at-3 c = search needs
+slice-aggregate-read-line-3 : tie.Need-slice-aggregate-read-line-3
+slice-aggregate-read-line-3 c = search needs
 
-line-at-requires-3 : tie.Need-line-at-requires-3
-line-at-requires-3 c κs = (within-2 (c .before .before .before .before), omega arith, omega arith)
+read-line-requires-3 : tie.Need-read-line-requires-3
+read-line-requires-3 c κs =
+    let t = c .before .before .before .before in
+    (within-2 t, omega (arith, line-3 t), omega arith, omega arith)
 
 enum-known-numbers-3 : tie.Need-enum-known-numbers-3
 enum-known-numbers-3 c = search needs
@@ -213,14 +235,22 @@ returns-5 c = (
       let v = i .before .before .before in
       let u = line-1 v in
       wire-read i next
-      ∙ due-wrong 3 sinksKey (upTo sinkLimit ∷ []) (text u) (end-2 v) (after-wire (start u .args .n) next (valueOf (slack u)) (wire v .mag))
-      (sym (c .enum-told3 .given .1) ∙ c .before .before .line-at3 .ensures),
+      ∙ due-wrong 3 sinksKey (upTo sinkLimit ∷ []) (text u) (end-2 v .at) (after-wire (start u .args .n) next (valueOf (slack u)) (wire v .mag))
+      (wrong-line sinksKey 1 (text u) (end-2 v .at) (end-2 v .line) (sym (c .enum-told3 .given .1) ∙ c .before .before .read-line3 .ensures))
+      ∙ ap (refused 2) (sym (line-3 v)),
   tt,
 )
 
-there-3 : (t : tie.After-known-told3) → Spelt (numbers-3 t) (end-3 t)
-    ≡ lineAt (end-2 (line-2 t)) (lineIn sinksKey 1 (drop (end-2 (line-2 t)) (text (line-1 (line-2 t)))))
-there-3 t = sym (t .before .numbers3 .given .1) ∙ t .before .before .before .line-at3 .ensures
+taken-3 : (t : tie.After-known-told3)
+    → (Spelt (numbers-3 t) (end-3 t .at) ≡ lineAt (end-2 (line-2 t) .at) (lineIn sinksKey 1 (drop (end-2 (line-2 t) .at) (text (line-1 (line-2 t))))))
+    × (end-3 t .line ≡ end-2 (line-2 t) .line + 1)
+taken-3 t =
+    let v = line-2 t in
+    right-line sinksKey 1 (text (line-1 v)) (end-2 v .at) (end-2 v .line) (numbers-3 t) (end-3 t) (sym (t .before .numbers3 .given .1) ∙ t .before .before .before .read-line3 .ensures)
+
+there-3 : (t : tie.After-known-told3) → Spelt (numbers-3 t) (end-3 t .at)
+    ≡ lineAt (end-2 (line-2 t) .at) (lineIn sinksKey 1 (drop (end-2 (line-2 t) .at) (text (line-1 (line-2 t)))))
+there-3 t = taken-3 t .0
 
 is-up-to-requires : tie.Need-is-up-to-requires
 is-up-to-requires c κs = search needs
@@ -232,27 +262,28 @@ returns-6 c = (
       let v = line-2 t in
       let u = line-1 v in
       wire-read (t .before .before .before .before .before) next
-      ∙ due-out 3 sinksKey (upTo sinkLimit ∷ []) (text u) (end-2 v) (after-wire (start u .args .n) next (valueOf (slack u)) (wire v .mag)) (omega arith)
-      (numbers-3 t) (end-3 t) (there-3 t) (inl (λ z h. sym (not-true _ (c .if3 .taken)) ∙ c .before .is-up-to .ensures z h)),
+      ∙ due-out 3 sinksKey (upTo sinkLimit ∷ []) (text u) (end-2 v .at) (after-wire (start u .args .n) next (valueOf (slack u)) (wire v .mag)) (omega arith)
+      (numbers-3 t) (end-3 t .at) (there-3 t) (inl (λ z h. sym (not-true _ (c .if3 .taken)) ∙ c .before .is-up-to .ensures z h))
+      ∙ ap (refused 3) (sym (line-3 v)),
   tt,
 )
 
 count-read : (c : tie.Else3) (next : Next)
     → dueTop (start (line-1 (line-2 (c .before .before .before))) .args .n) (text (line-1 (line-2 (c .before .before .before)))) next
     ≡ sameCount (start (line-1 (line-2 (c .before .before .before))) .args .n) (count (c .before .before .before) .mag)
-    (next (valueOf (slack (line-1 (line-2 (c .before .before .before))))) (wire (line-2 (c .before .before .before)) .mag) (drop (end-3 (c .before .before .before)) (text (line-1 (line-2 (c .before .before .before))))))
+    (next (valueOf (slack (line-1 (line-2 (c .before .before .before))))) (wire (line-2 (c .before .before .before)) .mag) (drop (end-3 (c .before .before .before) .at) (text (line-1 (line-2 (c .before .before .before))))))
 count-read c next =
     let t = c .before .before .before in
     let v = line-2 t in
     let u = line-1 v in
     wire-read (t .before .before .before .before .before) next
-    ∙ due-in 3 sinksKey (upTo sinkLimit ∷ []) (text u) (end-2 v) (after-wire (start u .args .n) next (valueOf (slack u)) (wire v .mag)) (omega arith)
-    (numbers-3 t) (end-3 t) (there-3 t) (from-narrow sinkLimit (omega arith) 1, tt)
+    ∙ due-in 3 sinksKey (upTo sinkLimit ∷ []) (text u) (end-2 v .at) (after-wire (start u .args .n) next (valueOf (slack u)) (wire v .mag)) (omega arith)
+    (numbers-3 t) (end-3 t .at) (there-3 t) (from-narrow sinkLimit (omega arith) 1, tt)
     (λ z h. sym (not-false _ (c .if3 .left)) ∙ c .before .is-up-to .ensures z h, tt)
-    ∙ ap (λ m. sameCount (start u .args .n) m (next (valueOf (slack u)) (wire v .mag) (drop (end-3 t) (text u)))) (value-abs (count t))
+    ∙ ap (λ m. sameCount (start u .args .n) m (next (valueOf (slack u)) (wire v .mag) (drop (end-3 t .at) (text u)))) (value-abs (count t))
 
 returns-7 : tie.Need-returns-7
-returns-7 c = (λ next. count-read (c .before) next ∙ rw (sameCount, ne-eqb _ _ (c .if4 .taken)), tt)
+returns-7 c = (λ next. count-read (c .before) next ∙ rw (sameCount, ne-eqb _ _ (c .if4 .taken)) (ap (refused 7) (sym (line-3 (line-2 (c .before .before .before .before))))), tt)
 
 value-requires : tie.Need-value-requires
 value-requires c κs =
@@ -275,31 +306,31 @@ returns-8 c =
     let stated = c .before .of .ensures ∙ toZ-ofZ (fit (z .result) (z .ok)) ∙ z .ensures in (
       λ next.
           count-read e next
-          ∙ (λ j. sameCount (start u .args .n) (count t .mag) (next (sym stated j) (sym (c .of2 .ensures) j) (drop (end-3 t) (text u))))
+          ∙ (λ j. sameCount (start u .args .n) (count t .mag) (next (sym stated j) (sym (c .of2 .ensures) j) (drop (end-3 t .at) (text u))))
           ∙ rw (sameCount, eq-eqb _ _ (c .before .before .before .if4 .left)),
-      next-line sinksKey 1 (text u) (end-2 v) (numbers-3 t) (end-3 t) (there-3 t) (within-2 v) .1,
+      (next-line sinksKey 1 (text u) (end-2 v .at) (numbers-3 t) (end-3 t .at) (there-3 t) (within-2 v) .1, omega (arith, taken-3 t .1, line-3 v)),
     )
 
 pub read-top-spec : {M : Type 1} → statement M
 read-top-spec =
     tie.close
     (tie.spec
-    slice-aggregate-line-at
-    line-at-requires
+    slice-aggregate-read-line
+    read-line-requires
     enum-known-numbers
     enum-told
     returns
     is-around-requires
     returns-2
-    slice-aggregate-line-at-2
-    line-at-requires-2
+    slice-aggregate-read-line-2
+    read-line-requires-2
     enum-known-numbers-2
     enum-told-2
     returns-3
     is-from-zero-requires
     returns-4
-    slice-aggregate-line-at-3
-    line-at-requires-3
+    slice-aggregate-read-line-3
+    read-line-requires-3
     enum-known-numbers-3
     enum-told-3
     returns-5

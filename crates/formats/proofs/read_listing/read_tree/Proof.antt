@@ -1,7 +1,10 @@
-use mathlib.Core.Path.{refl, subst}
+use Prim.Native.Nat.{_+_, _*_}
+use mathlib.Core.Path.{_≡_, refl, sym, subst, _∙_}
 use denote.Ref.{now}
 use borrow.Author.Needs.{needs}
+use borrow.Author.Tests.{ltb-true, ltb-false}
 use Rattle.formats.specs.ListingReader.{LinesWithin}
+use Rattle.formats.specs.declared.read_listing.Lines.the-variants.{LinesRead}
 use Rattle.formats.proofs.Laws.ListingLines.{tree-no-leaves, tree-no-nodes, tree-more, tree-all}
 use Rattle.formats.proofs.read_listing.read_tree.Statement.{statement}
 use Rattle.formats.proofs.read_listing.read_tree.Tie as tie
@@ -23,7 +26,7 @@ returns c =
     let a = c .before .before .before .before .before .before .before .before .args in
     let l = c .before .before .before .before .read-leaves in
     let g = c .enum-told .given in (
-      λ listing. tree-no-leaves (a .n) (now (a .text)) (a .from) (l .result) (l .last .1 .1 .1 .0) (l .ensures .0) listing (g .0 .0) (g .0 .1 .0) (g .1) _,
+      λ listing. tree-no-leaves (a .n) (now (a .text)) (a .from .at) (l .result) (l .last .1 .1 .1 .0) (l .ensures .0) listing (g .0 .0) (g .0 .1 .0) (g .1) _,
       λ v h. refl,
     )
 
@@ -32,7 +35,8 @@ read-nodes-requires c κs =
     let l = c .before .before .before .before .before .before .before .before .read-leaves in
     let s = c .before .before .before .before .before .before .before .before .before .before .before .before in
     let g = c .before .before .before .before .leaves .given in
-    (subst (λ o. LinesWithin o (now (s .args .text))) (g .1) (l .ensures .1), s .pre .1, s .pre .2, search needs, search needs, search needs)
+    let m : LinesWithin (LinesRead (g .0 .0)) (s .args .n + 4) (now (s .args .text)) = subst (λ o. LinesWithin o (s .args .n + 4) (now (s .args .text))) (g .1) (l .ensures .1) in
+    (m .0, m .1, s .pre .2, s .pre .3, search needs, search needs, search needs)
 
 enum-known-nodes : tie.Need-enum-known-nodes
 enum-known-nodes c = search needs
@@ -57,16 +61,22 @@ returns-2 c =
     let a = c .before .before .before .before .before .before .before .before .before .before .before .before .before .before .before .before .before .before .before .args in
     let g = c .enum-told2 .given in (
       λ listing.
-          tree-no-nodes (a .n) (now (a .text)) (a .from) (l .result) (l .last .1 .1 .1 .0) (l .ensures .0) listing (e .0 .0) (e .1)
+          tree-no-nodes (a .n) (now (a .text)) (a .from .at) (l .result) (l .last .1 .1 .1 .0) (l .ensures .0) listing (e .0 .0) (e .1)
           (m .result) (m .last .1 .1 .1 .0) (m .last .1 .1 .1 .1 .0) (m .last .1 .1 .1 .1 .1 .0) (m .ensures .0) (g .0 .0) (g .0 .1 .0) (g .1) _,
       m .ensures .1 .1 .1,
     )
 
-mul-t21 : tie.Need-mul-t21
-mul-t21 c = search needs
+-- the number of the line after the last
+end-line : (c : tie.After-bytes-follow) → c .before .before .nodes .given .0 .0 .line ≡ 2 * c .before .before .before .before .before .before .before .before .before .before .before .before .before .before .before .before .before .before .before .before .before .args .n + 3
+end-line c =
+    let m = c .before .before .before .before .before .before .before .before .read-nodes in
+    let a = c .before .before .before .before .before .before .before .before .before .before .before .before .before .before .before .before .before .before .before .before .before .args in
+    let g = c .before .before .nodes .given in
+    let w : LinesWithin (LinesRead (g .0 .0)) (2 * a .n + 3) (now (a .text)) = subst (λ o. LinesWithin o (2 * a .n + 3) (now (a .text))) (g .1) (m .ensures .1 .0) in
+    w .1
 
-add-t22 : tie.Need-add-t22
-add-t22 c = search needs
+bytes-follow-requires : tie.Need-bytes-follow-requires
+bytes-follow-requires c κs = search needs
 
 same-length-5 : tie.Need-same-length-5
 same-length-5 c = search needs
@@ -79,14 +89,14 @@ same-length-7 c = search needs
 
 returns-3 : tie.Need-returns-3
 returns-3 c =
-    let m = c .before .before .before .before .before .before .before .before .read-nodes in
-    let e = c .before .before .before .before .before .before .before .before .before .before .before .before .before .leaves .given in
-    let l = c .before .before .before .before .before .before .before .before .before .before .before .before .before .before .before .before .before .read-leaves in
-    let a = c .before .before .before .before .before .before .before .before .before .before .before .before .before .before .before .before .before .before .before .before .before .args in
-    let g = c .before .before .nodes .given in (
+    let m = c .before .before .before .before .before .before .before .before .before .read-nodes in
+    let e = c .before .before .before .before .before .before .before .before .before .before .before .before .before .before .leaves .given in
+    let l = c .before .before .before .before .before .before .before .before .before .before .before .before .before .before .before .before .before .before .read-leaves in
+    let a = c .before .before .before .before .before .before .before .before .before .before .before .before .before .before .before .before .before .before .before .before .before .before .args in
+    let g = c .before .before .before .nodes .given in (
       λ listing.
-          tree-more (a .n) (now (a .text)) (a .from) (l .result) (l .last .1 .1 .1 .0) (l .ensures .0) listing (e .0 .0) (e .1)
-          (m .result) (m .last .1 .1 .1 .0) (m .last .1 .1 .1 .1 .0) (m .last .1 .1 .1 .1 .1 .0) (m .ensures .0) (g .0 .0) (g .1) (c .if1 .taken),
+          tree-more (a .n) (now (a .text)) (a .from .at) (l .result) (l .last .1 .1 .1 .0) (l .ensures .0) listing (e .0 .0) (e .1)
+          (m .result) (m .last .1 .1 .1 .0) (m .last .1 .1 .1 .1 .0) (m .last .1 .1 .1 .1 .1 .0) (m .ensures .0) (g .0 .0) (g .1) (end-line (c .before)) (ltb-true _ _ (sym (c .before .bytes-follow .ensures) ∙ c .if1 .taken)),
       m .ensures .1 .1 .1,
     )
 
@@ -101,16 +111,16 @@ same-length-10 c = search needs
 
 returns-4 : tie.Need-returns-4
 returns-4 c =
-    let m = c .before .before .before .before .before .before .before .before .read-nodes in
-    let e = c .before .before .before .before .before .before .before .before .before .before .before .before .before .leaves .given in
-    let l = c .before .before .before .before .before .before .before .before .before .before .before .before .before .before .before .before .before .read-leaves in
-    let s = c .before .before .before .before .before .before .before .before .before .before .before .before .before .before .before .before .before .before .before .before .before in
+    let m = c .before .before .before .before .before .before .before .before .before .read-nodes in
+    let e = c .before .before .before .before .before .before .before .before .before .before .before .before .before .before .leaves .given in
+    let l = c .before .before .before .before .before .before .before .before .before .before .before .before .before .before .before .before .before .before .read-leaves in
+    let s = c .before .before .before .before .before .before .before .before .before .before .before .before .before .before .before .before .before .before .before .before .before .before in
     let a = s .args in
-    let g = c .before .before .nodes .given in (
+    let g = c .before .before .before .nodes .given in (
       λ listing.
-          tree-all (a .n) (now (a .text)) (a .from) (l .result) (l .last .1 .1 .1 .0) (l .ensures .0) listing (e .0 .0) (e .1)
+          tree-all (a .n) (now (a .text)) (a .from .at) (l .result) (l .last .1 .1 .1 .0) (l .ensures .0) listing (e .0 .0) (e .1)
           (m .result) (m .last .1 .1 .1 .0) (m .last .1 .1 .1 .1 .0) (m .last .1 .1 .1 .1 .1 .0) (m .ensures .0) (g .0 .0) (g .1)
-          (s .pre .1) (c .if1 .left) (m .ensures .1 .1 .0),
+          (s .pre .2) (ltb-false _ _ (sym (c .before .bytes-follow .ensures) ∙ c .if1 .left)) (m .ensures .1 .1 .0),
       m .ensures .1 .1 .1,
     )
 
@@ -130,8 +140,7 @@ read-tree-spec =
     same-length-3
     same-length-4
     returns-2
-    mul-t21
-    add-t22
+    bytes-follow-requires
     same-length-5
     same-length-6
     same-length-7

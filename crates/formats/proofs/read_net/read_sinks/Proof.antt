@@ -1,21 +1,22 @@
 use Prim.Native.Nat.{_-_}
-use mathlib.Core.Path.{_≡_, refl, _∙_}
+use mathlib.Core.Path.{_≡_, refl, sym, _∙_}
 use lib.ListN.{length}
 use borrow.Author.Needs.{needs}
+use borrow.Author.Tests.{ltb-true, ltb-false}
 use Rattle.tree.specs.Arrays.{pointAt}
 use Rattle.formats.proofs.Laws.SinkLines.{Sinking, sinking-start, sinking-refused, sinking-more, sinking-left, sinking-end}
 use Rattle.formats.proofs.read_net.read_sinks.Statement.{statement}
 use Rattle.formats.proofs.read_net.read_sinks.Tie as tie
 
 abbrev Inv-loop : tie.InvT-loop
-Inv-loop text start n xs₀ ys₀ required₀ at₀ done₀ xs ys required at done =
-    Sinking (pointAt xs₀ ys₀ 0) n text start xs ys required at done
+Inv-loop text start n xs₀ ys₀ required₀ here₀ done₀ xs ys required here done =
+    Sinking (pointAt xs₀ ys₀ 0) n text start xs ys required here done
     × (length xs ≡ length xs₀)
     × (length ys ≡ length ys₀)
     × (length required ≡ length required₀)
 
 abbrev μ-loop : tie.MeasureT-loop
-μ-loop text start n xs₀ ys₀ required₀ at₀ done₀ xs ys required at done = n - done
+μ-loop text start n xs₀ ys₀ required₀ here₀ done₀ xs ys required here done = n - done
 
 loop-holds : tie.Need-loop-holds Inv-loop μ-loop
 loop-holds c =
@@ -34,9 +35,6 @@ enum-known-next c = search needs
 enum-known-number : tie.Need-enum-known-number Inv-loop μ-loop
 enum-known-number c = search needs
 
-add-t20 : tie.Need-add-t20 Inv-loop μ-loop
-add-t20 c = search needs
-
 same-length : tie.Need-same-length Inv-loop μ-loop
 same-length c = search needs
 
@@ -51,7 +49,7 @@ returns c =
     let k = c .before .before .before .before .before .before in
     let v = k .before .before .before .before .before .loop in
     let g = c .before .number .given in
-    sinking-refused _ _ _ _ _ _ _ (v .at) (v .done) (v .inv .0) (k .before .before .before .before .loop-test .taken) (g .0 .0) (rw (g .1) at (k .read-sink .ensures))
+    sinking-refused _ _ _ _ _ _ _ (v .here) (v .done) (v .inv .0) (k .before .before .before .before .loop-test .taken) (g .0 .0) (rw (g .1) at (k .read-sink .ensures))
 
 add-done : tie.Need-add-done Inv-loop μ-loop
 add-done c = search needs
@@ -65,10 +63,10 @@ loop-again c =
     let v = k .before .before .before .before .before .loop in
     let g = c .before .next .given in
     let p = k .read-sink in
-    (sinking-more _ _ _ _ _ _ _ (v .at) (v .done) (v .inv .0) (k .before .before .before .before .loop-test .taken) (g .0 .0) _ _ _ (rw (g .1) at (p .ensures)), p .kept .1 .1 .1 .0 ∙ v .inv .1, p .kept .1 .1 .1 .1 .0 ∙ v .inv .2, p .kept .1 .1 .1 .1 .1 .0 ∙ v .inv .3)
+    (sinking-more _ _ _ _ _ _ _ (v .here) (v .done) (v .inv .0) (k .before .before .before .before .loop-test .taken) (g .0 .0) _ _ _ (rw (g .1) at (p .ensures)), p .kept .1 .1 .1 .0 ∙ v .inv .1, p .kept .1 .1 .1 .1 .0 ∙ v .inv .2, p .kept .1 .1 .1 .1 .1 .0 ∙ v .inv .3)
 
-add-t23 : tie.Need-add-t23 Inv-loop μ-loop
-add-t23 c = search needs
+bytes-follow-requires : tie.Need-bytes-follow-requires Inv-loop μ-loop
+bytes-follow-requires c κs = search needs
 
 same-length-4 : tie.Need-same-length-4 Inv-loop μ-loop
 same-length-4 c = search needs
@@ -81,8 +79,8 @@ same-length-6 c = search needs
 
 returns-2 : tie.Need-returns-2 Inv-loop μ-loop
 returns-2 c =
-    let v = c .before .before .loop in
-    sinking-left _ _ _ _ _ _ _ (v .at) (v .done) (v .inv .0) (c .before .loop-test .left) (c .if1 .taken)
+    let v = c .before .before .before .loop in
+    sinking-left _ _ _ _ _ _ _ (v .here) (v .done) (v .inv .0) (c .before .before .loop-test .left) (ltb-true _ _ (sym (c .before .bytes-follow .ensures) ∙ c .if1 .taken))
 
 same-length-7 : tie.Need-same-length-7 Inv-loop μ-loop
 same-length-7 c = search needs
@@ -95,8 +93,8 @@ same-length-9 c = search needs
 
 returns-3 : tie.Need-returns-3 Inv-loop μ-loop
 returns-3 c =
-    let v = c .before .before .loop in
-    sinking-end _ _ _ _ _ _ _ (v .at) (v .done) (v .inv .0) (c .before .loop-test .left) (c .if1 .left)
+    let v = c .before .before .before .loop in
+    sinking-end _ _ _ _ _ _ _ (v .here) (v .done) (v .inv .0) (c .before .before .loop-test .left) (ltb-false _ _ (sym (c .before .bytes-follow .ensures) ∙ c .if1 .left))
 
 pub read-sinks-spec : {M : Type 1} → statement M
 read-sinks-spec =
@@ -109,7 +107,6 @@ read-sinks-spec =
     read-sink-requires
     enum-known-next
     enum-known-number
-    add-t20
     same-length
     same-length-2
     same-length-3
@@ -117,7 +114,7 @@ read-sinks-spec =
     add-done
     loop-less
     loop-again
-    add-t23
+    bytes-follow-requires
     same-length-4
     same-length-5
     same-length-6

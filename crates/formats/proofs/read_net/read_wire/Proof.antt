@@ -1,23 +1,46 @@
-use mathlib.Core.Path.{sym, _∙_}
+use Prim.Native.Nat.{ℕ, _+_}
+use mathlib.Core.Path.{_≡_, sym, _∙_}
 use mathlib.Core.Logic.{inl}
-use mathlib.Core.List.{[], _∷_}
+use mathlib.Core.List.{List, [], _∷_}
+use lib.ListN.{drop}
 use denote.Ref.{now}
 use native.Mathlib.Omega.{arith}
 use borrow.Author.Needs.{needs}
 use borrow.Author.Tests.{not-true, not-false}
 use Rattle.quantities.specs.Linear.{up}
 use Rattle.tree.specs.Limits.{wireFactorLimit}
+use Rattle.formats.specs.Line.{lineIn}
 use Rattle.formats.specs.NetText.{wireKey, upTo}
+use Rattle.formats.specs.Scanning.{lineAt}
+use Rattle.formats.specs.declared.scan.Numbers.{Numbers}
+use Rattle.formats.specs.declared.scan.Line.the-variants.{Spelt}
+use Rattle.formats.specs.declared.reader.Place.{Place}
 use Rattle.formats.proofs.Laws.Due.{from-narrow}
+use Rattle.formats.proofs.Laws.Taking.{wrong-line, right-line}
 use Rattle.formats.proofs.Laws.Heads.{Taken, taken-next, heads-wrong, heads-out, wire-read}
 use Rattle.formats.proofs.read_net.read_wire.Statement.{statement}
 use Rattle.formats.proofs.read_net.read_wire.Tie as tie
 
-slice-aggregate-line-at : tie.Need-slice-aggregate-line-at
-slice-aggregate-line-at c = search needs
+abbrev start : tie.After-known-told → tie.Start
+start t = t .before .before .before .before .before .before
 
-line-at-requires : tie.Need-line-at-requires
-line-at-requires c κs = search needs
+abbrev text : tie.After-known-told → List ℕ
+text t = now (start t .args .text)
+
+abbrev here : tie.After-known-told → Place
+here t = start t .args .here
+
+abbrev numbers : tie.After-known-told → Numbers
+numbers t = t .before .numbers .given .0 .0
+
+abbrev next : tie.After-known-told → Place
+next t = t .before .numbers .given .0 .1 .0
+
+slice-aggregate-read-line : tie.Need-slice-aggregate-read-line
+slice-aggregate-read-line c = search needs
+
+read-line-requires : tie.Need-read-line-requires
+read-line-requires c κs = search needs
 
 enum-known-numbers : tie.Need-enum-known-numbers
 enum-known-numbers c = search needs
@@ -27,23 +50,26 @@ enum-told c = search needs
 
 returns : tie.Need-returns
 returns c =
-    let a = c .before .before .before .before .before .args in
-    heads-wrong 3 wireKey (upTo wireFactorLimit ∷ []) (now (a .text)) (a .at) _ (sym (c .enum-told .given .1) ∙ c .before .before .line-at .ensures)
+    let b = c .before .before .before .before .before in
+    let h = b .args .here in
+    heads-wrong 3 wireKey (upTo wireFactorLimit ∷ []) (now (b .args .text)) (h .at) _ (h .line) (b .pre .1) (wrong-line wireKey 1 (now (b .args .text)) (h .at) (h .line) (sym (c .enum-told .given .1) ∙ c .before .before .read-line .ensures))
+
+there : (t : tie.After-known-told) → (Spelt (numbers t) (next t .at) ≡ lineAt (here t .at) (lineIn wireKey 1 (drop (here t .at) (text t)))) × (next t .line ≡ here t .line + 1)
+there t = right-line wireKey 1 (text t) (here t .at) (here t .line) (numbers t) (next t) (sym (t .before .numbers .given .1) ∙ t .before .before .before .read-line .ensures)
 
 is-up-to-requires : tie.Need-is-up-to-requires
 is-up-to-requires c κs = search needs
 
 returns-2 : tie.Need-returns-2
 returns-2 c =
-    let a = c .before .before .before .before .before .before .before .before .before .args in
-    let g = c .before .before .before .before .numbers .given in
-    heads-out 3 wireKey (upTo wireFactorLimit ∷ []) (now (a .text)) (a .at) _ (omega arith) (g .0 .0) (g .0 .1 .0) (sym (g .1) ∙ c .before .before .before .before .before .before .line-at .ensures) (inl (λ z e. sym (not-true _ (c .if1 .taken)) ∙ c .before .is-up-to .ensures z e))
+    let t = c .before .before .before in
+    heads-out 3 wireKey (upTo wireFactorLimit ∷ []) (text t) (here t .at) _ (here t .line) (start t .pre .1) (omega arith) (numbers t) (next t .at) (there t .0) (inl (λ z e. sym (not-true _ (c .if1 .taken)) ∙ c .before .is-up-to .ensures z e))
 
-taken : (c : tie.Else1) → Taken wireKey (upTo wireFactorLimit ∷ []) (now (c .before .before .before .before .before .before .before .before .before .args .text)) (c .before .before .before .before .before .before .before .before .before .args .at) (c .before .before .before .before .numbers .given .0 .0) (c .before .before .before .before .numbers .given .0 .1 .0)
+taken : (c : tie.Else1) → Taken wireKey (upTo wireFactorLimit ∷ []) (text (c .before .before .before)) (here (c .before .before .before) .at) (numbers (c .before .before .before)) (next (c .before .before .before) .at)
 taken c =
     record {
       few = omega arith;
-      spelt = sym (c .before .before .before .before .numbers .given .1) ∙ c .before .before .before .before .before .before .line-at .ensures;
+      spelt = there (c .before .before .before) .0;
       narrow = (from-narrow wireFactorLimit (omega arith) 1, tt);
       passed = ((λ z e. sym (not-false _ (c .if1 .left)) ∙ c .before .is-up-to .ensures z e), tt);
     }
@@ -52,7 +78,10 @@ of-requires : tie.Need-of-requires
 of-requires c κs = search needs
 
 read-need-requires : tie.Need-read-need-requires
-read-need-requires c κs = taken-next (taken (c .before)) (c .before .before .before .before .before .before .before .before .before .before .pre) .1
+read-need-requires c κs =
+    let e = c .before in
+    let t = e .before .before .before in
+    (taken-next (taken e) (start t .pre .0) .1, omega (arith, there t .1, start t .pre .1))
 
 returns-3 : tie.Need-returns-3
 returns-3 c =
@@ -63,8 +92,8 @@ pub read-wire-spec : {M : Type 1} → statement M
 read-wire-spec =
     tie.close
     (tie.spec
-    slice-aggregate-line-at
-    line-at-requires
+    slice-aggregate-read-line
+    read-line-requires
     enum-known-numbers
     enum-told
     returns
