@@ -2,17 +2,16 @@
 ghost use mathlib.Core.Path.{_≡_};
 ghost use mathlib.Core.Bool.{cond};
 ghost use Prim.Native.Nat.{ℕ, suc, _+_, _*_, _≤_, _<_};
-ghost use lib.ListN.{length, getD, set, take};
-ghost use lib.Dec.{ltb};
+ghost use lib.ListN.{length, getD, set};
 ghost use lib.IntN.{ℤ, pos, _+ℤ_, _-ℤ_};
+ghost use lib.Signed.{ltZ};
 ghost use Rattle.quantities.specs.Reach.{Within, termReach};
-ghost use Rattle.quantities.specs.Order.{minℤ};
 ghost use Rattle.tree.specs.Net.{Net};
 ghost use Rattle.tree.specs.Measures.{worstSlack};
-ghost use Rattle.tree.specs.Planning.{bestOf, ranks, lowest, planParents};
+ghost use Rattle.tree.specs.Planning.{lowest, planParents};
 ghost use Rattle.tree.specs.Settling.{planBy};
 ghost use Rattle.tree.specs.Arrays.{parentsOf};
-ghost use Rattle.tree.specs.Insertion.{Ready, Inserted, score};
+ghost use Rattle.tree.specs.Insertion.{Ready, Inserted, FirstLargest, absent, score};
 use crate::header::Header;
 use crate::places::clear;
 use quantities::time::Time;
@@ -31,13 +30,12 @@ struct Choice {
     score: Time,
 }
 
-// Which of two sinks' edges is split rather, the best so far or that of u: the one of larger score, on a tie the one of lower number.
+// The better of the best so far and sink u, which has a higher number: u only where its score is larger.
 fn better(best: Choice, slacks: &[i64], worst: Time, branch: Time, u: usize) -> Choice
     requires { ⌜ (u < length (now slacks)) × Within termReach (getD (now slacks) u (pos 0)) × Within termReach (branch .0) ⌝ }
-    ensures sink { λ r. ⌜ r .sink ≡ cond (ranks (score (worst .0) (branch .0) (now (slacks .entry)) u) (best .score .0) (ltb u (best .sink))) u (best .sink) ⌝ }
-    ensures score { λ r. ⌜ r .score .0 ≡ cond (ranks (score (worst .0) (branch .0) (now (slacks .entry)) u) (best .score .0) (ltb u (best .sink))) (score (worst .0) (branch .0) (now (slacks .entry)) u) (best .score .0) ⌝ }
+    ensures sink { λ r. ⌜ r .sink ≡ cond (ltZ (best .score .0) (score (worst .0) (branch .0) (now (slacks .entry)) u)) u (best .sink) ⌝ }
+    ensures score { λ r. ⌜ r .score .0 ≡ cond (ltZ (best .score .0) (score (worst .0) (branch .0) (now (slacks .entry)) u)) (score (worst .0) (branch .0) (now (slacks .entry)) u) (best .score .0) ⌝ }
 {
-    let sink = best.sink;
     let score = best.score;
     let next = score_of(slacks, worst, branch, u);
     if score.is_less(next) {
@@ -46,33 +44,23 @@ fn better(best: Choice, slacks: &[i64], worst: Time, branch: Time, u: usize) -> 
             score: next,
         };
     }
-    if next.is_less(score) {
-        return Choice { sink, score };
-    }
-    if u < sink {
-        return Choice {
-            sink: u,
-            score: next,
-        };
-    }
-    Choice { sink, score }
+    best
 }
 
-// The sink whose edge is split: the best of the first k + 1.
-fn choose(k: usize, sinks: &[usize], slacks: &[i64], worst: Time, branch: Time) -> usize
-    requires { ⌜ (k < length (now sinks)) × Within termReach (branch .0) ⌝ }
-    requires { ⌜ ((i : ℕ) → i ≤ k → (getD (now sinks) i 0 < length (now slacks)) × Within termReach (getD (now slacks) (getD (now sinks) i 0) (pos 0))) ⌝ }
-    ensures { λ r. ⌜ r ≡ bestOf (score (worst .0) (branch .0) (now (slacks .entry))) ltb (take (suc k) (now (sinks .entry))) ⌝ }
+// The sink whose edge is split: the lowest number among the largest scores. No score is above `worst`, so the search ends at the first that is not below it.
+fn choose(n: usize, slacks: &[i64], worst: Time, branch: Time) -> usize
+    requires { ⌜ (1 ≤ n) × (n < length (now slacks)) × Within termReach (branch .0) ⌝ }
+    requires { ⌜ ((u : ℕ) → 1 ≤ u → u ≤ n → Within termReach (getD (now slacks) u (pos 0))) ⌝ }
+    ensures { λ r. ⌜ FirstLargest (score (worst .0) (branch .0) (now (slacks .entry))) n r ⌝ }
 {
-    let first = sinks[0];
     let mut best = Choice {
-        sink: first,
-        score: score_of(slacks, worst, branch, first),
+        sink: 1,
+        score: score_of(slacks, worst, branch, 1),
     };
-    let mut i = 1;
-    while i <= k {
-        best = better(best, slacks, worst, branch, sinks[i]);
-        i += 1;
+    let mut u = 2;
+    while u <= n && best.score.is_less(worst) {
+        best = better(best, slacks, worst, branch, u);
+        u += 1;
     }
     best.sink
 }
@@ -115,12 +103,27 @@ fn insert_next(
     ensures { λ r. ⌜ ((N : Net) → Ready N h n (now (own .entry)) (now (sinks .entry)) → Inserted N k (now (slacks .entry)) (now (parents .entry)) (worst .0) → Inserted N (suc k) (now (slacks .exit)) (now (parents .exit)) (r .0)) ⌝ }
 {
     let branch = h.branch;
-    let v = choose(k, sinks, slacks, worst, branch);
+    let v = choose(n, slacks, worst, branch);
     let next = score_of(slacks, worst, branch, v);
     let s = sinks[k + 1];
     split_edge(parents, n + k + 1, v, s);
     deepen(own, slacks, branch, v, s);
     next
+}
+
+// What stands for the slack of a sink that is not in: below every slack.
+const ABSENT: i64 = -1_050_000_000_000;
+
+// No sink is in.
+fn none_in(slacks: &mut [i64], n: usize)
+    requires { ⌜ n < length (now slacks) ⌝ }
+    ensures { λ r. ⌜ ((u : ℕ) → 1 ≤ u → u ≤ n → getD (now (slacks .exit)) u (pos 0) ≡ absent) ⌝ }
+{
+    let mut u = 1;
+    while u <= n {
+        slacks[u] = ABSENT;
+        u += 1;
+    }
 }
 
 // All sinks go in, in their order. The worst slack of the tree is returned; `slacks` is room for the slacks.
@@ -138,6 +141,7 @@ pub fn insert_all(
     ensures worst { λ r. ⌜ ((N : Net) → Ready N h n (now (own .entry)) (now (sinks .entry)) → r .0 ≡ worstSlack N (planBy lowest N)) ⌝ }
 {
     clear(parents, 2 * n);
+    none_in(slacks, n);
     let first = sinks[0];
     slacks[first] = own[first];
     let mut worst = Time::of(own[first]);

@@ -1,44 +1,62 @@
--- The best of a list, found element by element. Assumes nothing.
-use Prim.Native.Nat.{ℕ, suc, _+_, _<_}
-use mathlib.Core.Path.{_≡_, refl, ap, _∙_}
+-- The first of the largest, found number by number, is the best of a list. Assumes nothing.
+use Prim.Native.Nat.{ℕ, _-_, _≤_, _<_}
+use mathlib.Core.Path.{_≡_, refl, sym, subst}
 use mathlib.Core.Bool.{Bool, true, false, cond}
+use mathlib.Core.Logic.{_≢_, _⊎_, inl, inr}
 use mathlib.Core.List.{List, [], _∷_}
 use native.Mathlib.Omega.{arith}
-use native.Mathlib.Numerals.{add-one}
-use lib.ListN.{length, getD, drop}
-use lib.Seq.{drop-cons}
-use lib.IntN.{ℤ}
-use lib.Signed.{ltZ}
-use Rattle.tree.specs.Planning.{ranks, best, bestOf}
+use native.Mathlib.Decide.{decLe}
+use lib.Dec.{ltb}
+use lib.ListN.{getD}
+use lib.IntN.{ℤ, pos, _-ℤ_}
+use lib.Signed.{_≤ℤ_, _<ℤ_, ≤ℤ-refl, ltZ}
+use Rattle.quantities.specs.Linear.{whole}
+use Rattle.quantities.proofs.Laws.Order.{min-le-left}
+use Rattle.tree.specs.Lists.{count}
+use Rattle.tree.specs.Net.{Net}
+use Rattle.tree.specs.Planning.{bestOf}
+use Rattle.tree.specs.Insertion.{FirstLargest, score}
+use Rattle.tree.proofs.Laws.Sums.{equal?}
+use Rattle.tree.proofs.Laws.Ties.{best-unique}
 
--- ---- what a comparison comes to
+module _ (f : ℕ → ℤ) where
+  pub first-start : FirstLargest f 1 1
+  first-start = record {
+    from = omega arith;
+    to = omega arith;
+    largest = λ u a b. let e : 1 ≡ u = omega arith in subst (λ (v : ℕ). f v ≤ℤ f 1) e (≤ℤ-refl (f 1));
+    first = λ u a b. absurd (omega arith);
+  }
 
-pub ranks-more : (a b : ℤ) (t : Bool) → ltZ b a ≡ true → ranks a b t ≡ true
-ranks-more a b t e = rw e
-
-pub ranks-less : (a b : ℤ) (t : Bool) → ltZ b a ≡ false → ltZ a b ≡ true → ranks a b t ≡ false
-ranks-less a b t e f = rw (e, f)
-
-pub ranks-same : (a b : ℤ) (t : Bool) → ltZ b a ≡ false → ltZ a b ≡ false → ranks a b t ≡ t
-ranks-same a b t e f = rw (e, f)
-
--- ---- a scan over the first m of a list
-
-module _ (f : ℕ → ℤ) (tie : ℕ → ℕ → Bool) (l : List ℕ) where
-  pub best-start : 0 < length l → bestOf f tie l ≡ best f tie (getD l 0 0) (f (getD l 0 0)) (drop 1 l)
-  best-start h = go l h
+  -- i is looked at next: w is the largest so far
+  pub first-more : (i v : ℕ) (w : ℤ) → 1 ≤ i → FirstLargest f (i - 1) v → w ≡ f v → FirstLargest f i (cond (ltZ w (f i)) i v) × (cond (ltZ w (f i)) (f i) w ≡ f (cond (ltZ w (f i)) i v))
+  first-more i v w i1 b is = go (ltZ w (f i)) refl
     where
-      go : (l : List ℕ) → 0 < length l → bestOf f tie l ≡ best f tie (getD l 0 0) (f (getD l 0 0)) (drop 1 l)
-      go [] h = absurd (omega arith)
-      go (x ∷ l) h = refl
+      go : (t : Bool) → ltZ w (f i) ≡ t → FirstLargest f i (cond t i v) × (cond t (f i) w ≡ f (cond t i v))
+      go true e = (record { from = i1; to = omega arith; largest = λ u x y. all u x y (equal? u i); first = λ u x y. let h : f u ≤ℤ f v = b .largest u x (omega arith) in omega (arith, whole) }, refl)
+        where
+          all : (u : ℕ) → 1 ≤ u → u ≤ i → (u ≡ i) ⊎ (u ≢ i) → f u ≤ℤ f i
+          all u x y (inl q) = subst (λ (z : ℕ). f z ≤ℤ f i) (sym q) (≤ℤ-refl (f i))
+          all u x y (inr d) = let h : f u ≤ℤ f v = b .largest u x (omega arith) in omega (arith, whole)
+      go false e = (record { from = b .from; to = omega (arith, b .to); largest = λ u x y. all u x y (equal? u i); first = b .first }, is)
+        where
+          all : (u : ℕ) → 1 ≤ u → u ≤ i → (u ≡ i) ⊎ (u ≢ i) → f u ≤ℤ f v
+          all u x y (inl q) = subst (λ (z : ℕ). f z ≤ℤ f v) (sym q) (omega (arith, whole))
+          all u x y (inr d) = b .largest u x (omega arith)
 
-  -- the best so far is v, of score w
-  best-cons : (v : ℕ) (w : ℤ) (u : ℕ) (r : List ℕ) → best f tie v w (u ∷ r) ≡ best f tie (cond (ranks (f u) w (tie u v)) u v) (cond (ranks (f u) w (tie u v)) (f u) w) r
-  best-cons v w u r = go (ranks (f u) w (tie u v))
+  -- the rest need not be looked at where none is above w and f v is not below it
+  pub first-rest : (m n v : ℕ) (w : ℤ) → FirstLargest f m v → m ≤ n → ((u : ℕ) → f u ≤ℤ w) → w ≤ℤ f v → FirstLargest f n v
+  first-rest m n v w b h top e = record { from = b .from; to = omega (arith, b .to); largest = λ u x y. let t : f u ≤ℤ w = top u in omega (arith, whole); first = b .first }
+
+  -- the best of any of the numbers that has r among them
+  pub first-best : (N : Net) (n : ℕ) (l : List ℕ) (r : ℕ) → FirstLargest f n r → ((u : ℕ) → count u l ≢ 0 → (1 ≤ u) × (u ≤ n)) → count r l ≢ 0 → r ≡ bestOf f ltb l
+  first-best N n [] r b within m = absurd (m refl)
+  first-best N n (x ∷ l) r b within m = best-unique N [] 0 f x l r m (λ u q. b .largest u (within u q .0) (within u q .1)) (λ u q e. low u (within u q .0) e (decLe r u))
     where
-      go : (t : Bool) → _≡_ {A = ℕ} (elim t [ true ↦ best f tie u (f u) r | false ↦ best f tie v w r ]) (best f tie (cond t u v) (cond t (f u) w) r)
-      go true = refl
-      go false = refl
+      low : (u : ℕ) → 1 ≤ u → f u ≡ f r → Dec (r ≤ u) → r ≤ u
+      low u x e (yes h) = h
+      low u x e (no h) = let k : f u <ℤ f r = b .first u x (omega arith) in absurd (omega (arith, whole))
 
-  pub best-next : (v : ℕ) (w : ℤ) (i : ℕ) → i < length l → best f tie v w (drop i l) ≡ best f tie (cond (ranks (f (getD l i 0)) w (tie (getD l i 0) v)) (getD l i 0) v) (cond (ranks (f (getD l i 0)) w (tie (getD l i 0) v)) (f (getD l i 0)) w) (drop (i + 1) l)
-  best-next v w i h = ap (best f tie v w) (drop-cons l i 0 h) ∙ rw add-one (best-cons v w (getD l i 0) (drop (suc i) l))
+-- no score is above the worst slack
+pub score-le : (worst branch : ℤ) (slacks : List ℤ) (u : ℕ) → score worst branch slacks u ≤ℤ worst
+score-le worst branch slacks u = min-le-left worst (getD slacks u (pos 0) -ℤ branch)

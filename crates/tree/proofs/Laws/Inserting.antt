@@ -6,13 +6,14 @@ use mathlib.Core.List.{List, [], _∷_, map}
 use native.Mathlib.Nat.{mul-le-mul, zero-mul}
 use native.Mathlib.Omega.{arith}
 use lib.ListN.{length, getD, set, take, drop, replicate, length-set, length-replicate, getD-replicate, take-append-drop, length-take}
-use lib.Seq.{ext-getD, getD-set-same, getD-set-other, getD-take, take-take, drop-length}
+use lib.Seq.{ext-getD, getD-set-same, getD-set-other, getD-take, drop-length}
 use lib.Dec.{ltb}
 use lib.IntN.{ℤ, pos, _+ℤ_, _-ℤ_}
-use lib.Signed.{_≤ℤ_, ≤ℤ-refl}
+use lib.Signed.{_≤ℤ_, _<ℤ_, ≤ℤ-refl}
 use Rattle.quantities.specs.Linear.{whole, +is, -is}
 use Rattle.quantities.specs.Order.{minℤ}
 use Rattle.quantities.specs.Reach.{Within, termReach}
+use Rattle.quantities.proofs.Laws.Order.{min-is}
 use Rattle.tree.specs.declared.header.Header.{Header}
 use Rattle.tree.specs.Lists.{delta, count, range, least}
 use Rattle.tree.specs.Net.{Net, size, sinkAt, required, delay, ownSlack}
@@ -22,7 +23,7 @@ use Rattle.tree.specs.Planning.{order, unsettled, put, split, lowest, be
 use Rattle.tree.specs.Settling.{planBy}
 use Rattle.tree.specs.Limits.{branchLimit, sinkLimit, requiredLimit, InRange}
 use Rattle.tree.specs.Arrays.{parentsOf}
-use Rattle.tree.specs.Insertion.{Ready, Inserted, score}
+use Rattle.tree.specs.Insertion.{Ready, Inserted, FirstLargest, absent, score}
 use Rattle.tree.proofs.Laws.Sums.{delta-self, delta-ne, equal?}
 use Rattle.tree.proofs.Laws.Walks.{hops, hops-le}
 use Rattle.tree.proofs.Laws.KraftSums.{depthIn}
@@ -31,6 +32,7 @@ use Rattle.tree.proofs.Laws.LegalTrees.{put-same, put-other}
 use Rattle.tree.proofs.Laws.Insertion.{Least, Grown}
 use Rattle.tree.proofs.Laws.Planning.{least-law, best-member, best-largest, count-append, order-count, order-length}
 use Rattle.tree.proofs.Laws.Ties.{lowest-law, best-unique}
+use Rattle.tree.proofs.Laws.Choosing.{first-best}
 use Rattle.tree.proofs.Laws.Settling.{range-count, settling}
 use Rattle.tree.proofs.Laws.Theorem1.{worst-is, sinks-in, plan-legal}
 use Rattle.tree.proofs.Laws.WorstAfter.{least-one, before}
@@ -70,11 +72,9 @@ parents-split n ps k s v long kn s1 sn v1 vn =
 
 -- ---- the best and the least of a list: nothing but its elements matters
 
-pub best-same : (N : Net) (f g : ℕ → ℤ) (l r : List ℕ) → ((v : ℕ) → count v l ≡ count v r) → ((v : ℕ) → count v l ≢ 0 → f v ≡ g v) → bestOf f ltb l ≡ bestOf g ltb r
-best-same N f g [] [] e h = refl
-best-same N f g [] (y ∷ r) e h = absurd (omega (arith, e y, delta-self y))
-best-same N f g (x ∷ l) [] e h = absurd (omega (arith, e x, delta-self x))
-best-same N f g (x ∷ l) (y ∷ r) e h = best-unique N [] 0 g y r b (omega (arith, e b, bl)) top low
+pub best-same : (N : Net) (f g : ℕ → ℤ) (l : List ℕ) → ((v : ℕ) → count v l ≢ 0 → f v ≡ g v) → bestOf f ltb l ≡ bestOf g ltb l
+best-same N f g [] h = refl
+best-same N f g (x ∷ l) h = best-unique N [] 0 g x l b bl top low
   where
     b : ℕ
     b = bestOf f ltb (x ∷ l)
@@ -85,14 +85,13 @@ best-same N f g (x ∷ l) (y ∷ r) e h = best-unique N [] 0 g y r b (omega (ari
     fb : f b ≡ g b
     fb = h b bl
 
-    top : (u : ℕ) → count u (y ∷ r) ≢ 0 → g u ≤ℤ g b
+    top : (u : ℕ) → count u (x ∷ l) ≢ 0 → g u ≤ℤ g b
     top u m =
-        let q : count u (x ∷ l) ≢ 0 = omega (arith, e u) in
-        let a : f u ≤ℤ f b = best-largest f ltb x l u q in
-        omega (arith, whole, h u q, fb)
+        let a : f u ≤ℤ f b = best-largest f ltb x l u m in
+        omega (arith, whole, h u m, fb)
 
-    low : (u : ℕ) → count u (y ∷ r) ≢ 0 → g u ≡ g b → b ≤ u
-    low u m k = let q : count u (x ∷ l) ≢ 0 = omega (arith, e u) in lowest-law N [] 0 f x l u q (h u q ∙ k ∙ sym fb)
+    low : (u : ℕ) → count u (x ∷ l) ≢ 0 → g u ≡ g b → b ≤ u
+    low u m k = lowest-law N [] 0 f x l u m (h u m ∙ k ∙ sym fb)
 
 least-of : (f : ℕ → ℤ) (l : List ℕ) → 0 < length l → Least l f (least (map f l))
 least-of f [] h = absurd (omega arith)
@@ -123,6 +122,7 @@ slackAfter N k y = before N k (parentsAfter lowest N k) y
 -- what the program keeps after k insertions, by the sinks' numbers
 record Held (N : Net) (k : ℕ) (slacks : List ℤ) (worst : ℤ) : Type 0 where
   pub slacks-are : (y : ℕ) → count y (inserted N k) ≢ 0 → getD slacks y (pos 0) ≡ slackAfter N k y
+  pub others-absent : (y : ℕ) → 1 ≤ y → y ≤ size N → count y (inserted N k) ≡ 0 → getD slacks y (pos 0) ≡ absent
   pub worst-is : Least (inserted N k) (slackAfter N k) worst
 
 module _ (N : Net) (c1 : 0 < N .branch) (k : ℕ) (kN : k < size N) where
@@ -141,6 +141,7 @@ module _ (N : Net) (c1 : 0 < N .branch) (k : ℕ) (kN : k < size N) where
   to-held : {slacks : List ℤ} {ps : List ℕ} {worst : ℤ} → Inserted N k slacks ps worst → Held N k slacks worst
   to-held {slacks} {ps} {worst} I = record {
     slacks-are = λ y m. newest-each (order N) (λ u. getD slacks u (pos 0) ≡ slack N (unsettled N (parentsAfter lowest N k)) u) (suc k) (λ i q. I .slacks-are i (omega arith)) y m ∙ slack-is y m;
+    others-absent = λ y y1 yN z. I .others-absent y y1 yN (omega (arith, inserted-count y));
     worst-is = subst (Least (inserted N k) (slackAfter N k)) (sym (I .worst-is)) worst-least;
   }
 
@@ -148,6 +149,7 @@ module _ (N : Net) (c1 : 0 < N .branch) (k : ℕ) (kN : k < size N) where
   to-inserted {slacks} {ps} {worst} e H = record {
     parents-are = e;
     slacks-are = λ i q. let m : count (getD (order N) i 0) (inserted N k) ≢ 0 = newest-in (order N) (suc k) i (omega arith) in H .slacks-are (getD (order N) i 0) m ∙ sym (slack-is (getD (order N) i 0) m);
+    others-absent = λ y y1 yN z. H .others-absent y y1 yN (omega (arith, inserted-count y));
     worst-is = least-one (inserted N k) (slackAfter N k) worst _ (H .worst-is) worst-least;
   }
 
@@ -160,7 +162,7 @@ module _ (N : Net) (R : InRange N) where
       let q : Within requiredLimit (required N s) = R .required s s1 sN in
       omega (arith, whole, -is (required N s) (pos (delay (N .wire) (N .root) (sinkAt N s))))
 
-  slack-within : (k : ℕ) (P : List ℕ) (s : ℕ) → k < size N → 1 ≤ s → s ≤ size N → Within termReach (before N k P s)
+  slack-within : (k : ℕ) (P : List ℕ) (s : ℕ) → k < size N → 1 ≤ s → s ≤ size N → Within termReach (before N k P s) × (absent <ℤ before N k P s)
   slack-within k P s kN s1 sN =
       let d : ℕ = depthIn (2 * k + 1) (parentOf P) s in
       let deep : d ≤ 1023 = omega (arith, hops-le (parentOf P) (2 * k + 1) (parentOf P s), R .sinks) in
@@ -188,9 +190,10 @@ module _ (N : Net) (n1 : 1 ≤ size N) where
       ext-getD 0 (parentsOf (size N) ps) (replicate (2 * size N - 1) 0) (parents-length (size N) ps ∙ sym (length-replicate (2 * size N - 1) 0))
       (λ i q. let h : suc i < 2 * size N = omega (arith, parents-length (size N) ps) in parents-at (size N) ps (suc i) (omega arith) h ∙ z (suc i) h ∙ sym (getD-replicate (2 * size N - 1) i 0 0 (omega arith)))
 
-  held-start : (slacks : List ℤ) → size N < length slacks → Held N 0 (set slacks (getD (order N) 0 0) (ownSlack N (getD (order N) 0 0))) (ownSlack N (getD (order N) 0 0))
-  held-start slacks long = record {
+  held-start : (slacks : List ℤ) → size N < length slacks → ((u : ℕ) → 1 ≤ u → u ≤ size N → getD slacks u (pos 0) ≡ absent) → Held N 0 (set slacks (getD (order N) 0 0) (ownSlack N (getD (order N) 0 0))) (ownSlack N (getD (order N) 0 0))
+  held-start slacks long empty = record {
     slacks-are = λ y m. ap (λ (u : ℕ). getD (set slacks x (ownSlack N x)) u (pos 0)) (is-first y m) ∙ getD-set-same slacks x (ownSlack N x) (pos 0) (omega (arith, xN)) ∙ sym (slack-first x xN) ∙ ap (slackAfter N 0) (sym (is-first y m));
+    others-absent = λ y y1 yN z. getD-set-other slacks x y (ownSlack N x) (pos 0) (λ e. omega (arith, z, ap (λ (u : ℕ). delta u x) e, delta-self x)) ∙ empty y y1 yN;
     worst-is = record {
       below = λ y m. subst (λ (z : ℤ). ownSlack N x ≤ℤ z) (sym (slack-first x xN) ∙ ap (slackAfter N 0) (sym (is-first y m))) (≤ℤ-refl (ownSlack N x));
       at = x;
@@ -240,15 +243,29 @@ module _ (N : Net) (c1 : 0 < N .branch) (k : ℕ) (kN : suc k < size N) {slacks 
   score-is : (y : ℕ) → count y (inserted N k) ≢ 0 → score worst (pos (N .branch)) slacks y ≡ minℤ worst (slackAfter N k y -ℤ pos (N .branch))
   score-is y m = ap (λ (z : ℤ). minℤ worst (z -ℤ pos (N .branch))) (H .slacks-are y m)
 
-  chosen-is : bestOf (score worst (pos (N .branch)) slacks) ltb (take (suc k) (order N)) ≡ v
+  chosen-is : bestOf (score worst (pos (N .branch)) slacks) ltb (inserted N k) ≡ v
   chosen-is =
-      best-same N (score worst (pos (N .branch)) slacks) (λ y. minℤ worst (slackAfter N k y -ℤ pos (N .branch))) (take (suc k) (order N)) (inserted N k)
-      (λ y. sym (inserted-count N c1 k (omega arith) y)) (λ y m. score-is y (omega (arith, inserted-count N c1 k (omega arith) y)))
+      best-same N (score worst (pos (N .branch)) slacks) (λ y. minℤ worst (slackAfter N k y -ℤ pos (N .branch))) (inserted N k) score-is
       ∙ sym (scan N c1 g s s1 sN (next-fresh N k kN) kN (inserted-rising N k kN) worst (H .worst-is))
+
+  -- the first of the largest scores is that of a sink that is in
+  first-in : InRange N → (r : ℕ) → FirstLargest (score worst (pos (N .branch)) slacks) (size N) r → count r (inserted N k) ≢ 0
+  first-in R r b z =
+      let f : ℕ → ℤ = score worst (pos (N .branch)) slacks in
+      let y : ℕ = H .worst-is .at in
+      let y-in : (1 ≤ y) × (y ≤ size N) = inserted-in N k (omega arith) y (H .worst-is .in-list) in
+      let top : f y ≤ℤ f r = b .largest y (y-in .0) (y-in .1) in
+      let over : absent <ℤ slackAfter N k y = slack-within N R k P y (omega arith) (y-in .0) (y-in .1) .1 in
+      let yours : getD slacks y (pos 0) ≡ worst = H .slacks-are y (H .worst-is .in-list) ∙ H .worst-is .is in
+      let mine : getD slacks r (pos 0) ≡ absent = H .others-absent r (b .from) (b .to) z in
+      omega (arith, whole, H .worst-is .is, -is (getD slacks y (pos 0)) (pos (N .branch)), -is (getD slacks r (pos 0)) (pos (N .branch)), min-is worst (getD slacks y (pos 0) -ℤ pos (N .branch)), min-is worst (getD slacks r (pos 0) -ℤ pos (N .branch)))
+
+  first-is : InRange N → (r : ℕ) → FirstLargest (score worst (pos (N .branch)) slacks) (size N) r → r ≡ v
+  first-is R r b = first-best (score worst (pos (N .branch)) slacks) N (size N) (inserted N k) r b (inserted-in N k (omega arith)) (first-in R r b) ∙ chosen-is
 
   held-next : size N < length slacks
       → Held N (suc k) (set (set slacks v (getD slacks v (pos 0) -ℤ pos (N .branch))) s (ownSlack N s -ℤ ownSlack N v +ℤ (getD slacks v (pos 0) -ℤ pos (N .branch)))) (score worst (pos (N .branch)) slacks v)
-  held-next long = record { slacks-are = λ y m. each y m (equal? y s) (equal? y v); worst-is = next-worst }
+  held-next long = record { slacks-are = λ y m. each y m (equal? y s) (equal? y v); others-absent = others; worst-is = next-worst }
     where
       vN : (1 ≤ v) × (v ≤ size N)
       vN = inserted-in N k (omega arith) v chosen-in
@@ -289,6 +306,12 @@ module _ (N : Net) (c1 : 0 < N .branch) (k : ℕ) (kN : suc k < size N) {slacks 
           getD-set-other (set slacks v lowered) s y news (pos 0) d ∙ getD-set-other slacks v y lowered (pos 0) f
           ∙ H .slacks-are y q
           ∙ sym (next y ∙ slack-other N c1 g s s1 sN (next-fresh N k kN) kN (inserted-rising N k kN) worst (H .worst-is) v chosen-in y q f)
+
+      others : (y : ℕ) → 1 ≤ y → y ≤ size N → count y (inserted N (suc k)) ≡ 0 → getD (set (set slacks v lowered) s news) y (pos 0) ≡ absent
+      others y y1 yN z =
+          let d : y ≢ s = λ e. omega (arith, z, ap (λ (u : ℕ). delta u s) e, delta-self s) in
+          let f : y ≢ v = λ e. omega (arith, z, ap (λ (u : ℕ). count u (inserted N k)) e, chosen-in) in
+          getD-set-other (set slacks v lowered) s y news (pos 0) d ∙ getD-set-other slacks v y lowered (pos 0) f ∙ H .others-absent y y1 yN (omega (arith, z))
 
       next-worst : Least (inserted N (suc k)) (slackAfter N (suc k)) (score worst (pos (N .branch)) slacks v)
       next-worst =
@@ -340,26 +363,27 @@ module _ {N : Net} {h : Header} {n : ℕ} {own : List ℤ} {sinks : List ℕ} (R
   own-slack-within s s1 sn = subst (Within termReach) (sym (R .own-is s s1 sn)) (own-within N (R .in-range) s s1 (omega (arith, R .size-is)))
 
   -- "The first hangs on the root"
-  pub insert-first : (slacks : List ℤ) (ps : List ℕ) (a : ℤ) → n < length slacks → ((v : ℕ) → v < 2 * n → getD ps v 0 ≡ 0) → a ≡ getD own (getD sinks 0 0) (pos 0) → Inserted N 0 (set slacks (getD sinks 0 0) a) ps a
-  insert-first slacks ps a long z e =
+  pub insert-first : (slacks : List ℤ) (ps : List ℕ) (a : ℤ) → n < length slacks → ((u : ℕ) → 1 ≤ u → u ≤ n → getD slacks u (pos 0) ≡ absent) → ((v : ℕ) → v < 2 * n → getD ps v 0 ≡ 0) → a ≡ getD own (getD sinks 0 0) (pos 0) → Inserted N 0 (set slacks (getD sinks 0 0) a) ps a
+  insert-first slacks ps a long empty z e =
       let n1 : 1 ≤ size N = R .in-range .sinks .0 in
       let x : getD sinks 0 0 ≡ getD (order N) 0 0 = sink-is 0 (some-sink .0) in
       let o : a ≡ ownSlack N (getD (order N) 0 0) = e ∙ R .own-is (getD sinks 0 0) (sink-in 0 (some-sink .0) .0) (sink-in 0 (some-sink .0) .1) ∙ ap (ownSlack N) x in
-      let held : Held N 0 (set slacks (getD sinks 0 0) a) a = subst (λ (l : List ℤ). Held N 0 l a) (λ i. set slacks (sym x i) a) (subst (λ (w : ℤ). Held N 0 (set slacks (getD (order N) 0 0) w) w) (sym o) (held-start N n1 slacks (omega (arith, R .size-is)))) in
+      let held : Held N 0 (set slacks (getD sinks 0 0) a) a = subst (λ (l : List ℤ). Held N 0 l a) (λ i. set slacks (sym x i) a) (subst (λ (w : ℤ). Held N 0 (set slacks (getD (order N) 0 0) w) w) (sym o) (held-start N n1 slacks (omega (arith, R .size-is)) (λ u u1 uN. empty u u1 (omega (arith, R .size-is))))) in
       to-inserted N branch-pos 0 n1 (parents-start N n1 ps (λ v l. z v (omega (arith, R .size-is)))) held
 
   module _ {k : ℕ} {slacks : List ℤ} {ps : List ℕ} {worst : ℤ} (I : Inserted N k slacks ps worst) where
     held : k < n → Held N k slacks worst
     held q = to-held N branch-pos k (omega (arith, R .size-is)) I
 
-    pub sink-within : (i : ℕ) → k < n → i ≤ k → Within termReach (getD slacks (getD sinks i 0) (pos 0))
-    sink-within i q l =
-        let x : getD sinks i 0 ≡ getD (order N) i 0 = sink-is i (omega arith) in
-        let y : ℕ = getD (order N) i 0 in
-        let m : count y (inserted N k) ≢ 0 = newest-in (order N) (suc k) i (omega arith) in
-        let j : i < size N = omega (arith, R .size-is) in
-        subst (Within termReach) (sym (ap (λ (u : ℕ). getD slacks u (pos 0)) x ∙ held q .slacks-are y m))
-        (slack-within N (R .in-range) k (parentsAfter lowest N k) y (omega (arith, R .size-is)) (order-in N i j .0) (order-in N i j .1))
+    -- what stands at a place, the slack of a sink that is in or `absent`
+    pub place-within : (u : ℕ) → k < n → 1 ≤ u → u ≤ n → Within termReach (getD slacks u (pos 0))
+    place-within u q u1 un = go (equal? (count u (inserted N k)) 0)
+      where
+        go : (count u (inserted N k) ≡ 0) ⊎ (count u (inserted N k) ≢ 0) → Within termReach (getD slacks u (pos 0))
+        go (inl z) = let e : getD slacks u (pos 0) ≡ absent = held q .others-absent u u1 (omega (arith, R .size-is)) z in omega (arith, whole)
+        go (inr m) =
+            subst (Within termReach) (sym (held q .slacks-are u m))
+            (slack-within N (R .in-range) k (parentsAfter lowest N k) u (omega (arith, R .size-is)) u1 (omega (arith, R .size-is)) .0)
 
     -- the end: all are in
     pub insert-end : n ≡ suc k → (parentsOf n ps ≡ planParents lowest N) × (worst ≡ worstSlack N (planBy lowest N))
@@ -368,7 +392,7 @@ module _ {N : Net} {h : Header} {n : ℕ} {own : List ℤ} {sinks : List ℕ} (R
         (ap (λ (m : ℕ). parentsOf m ps) (sym (R .size-is)) ∙ I .parents-are ∙ ap (parentsAfter lowest N) q, worst-end N branch-pos (R .in-range .sinks .0) (subst (λ (j : ℕ). Held N j slacks worst) q (held (omega arith))))
 
     -- the sink whose edge is split, as the program finds it
-    module _ (kn : suc k < n) {v : ℕ} (v-is : v ≡ bestOf (score worst (h .branch .0) slacks) ltb (take (suc k) sinks)) where
+    module _ (kn : suc k < n) {v : ℕ} (v-is : FirstLargest (score worst (h .branch .0) slacks) n v) where
       kN : suc k < size N
       kN = omega (arith, R .size-is)
 
@@ -386,16 +410,8 @@ module _ {N : Net} {h : Header} {n : ℕ} {own : List ℤ} {sinks : List ℕ} (R
 
       split-is : v ≡ at
       split-is =
-          let first : take (suc k) sinks ≡ take (suc k) (order N) = sym (take-take (suc k) n sinks (omega arith)) ∙ ap (take (suc k)) (R .sinks-are) in
-          v-is ∙ (λ i. bestOf (score worst (R .branch-is i) slacks) ltb (first i)) ∙ chosen-is N branch-pos k kN H
-
-      pub split-in : (1 ≤ v) × (v ≤ n)
-      split-in = omega (arith, split-is, at-in, R .size-is)
-
-      pub split-within : Within termReach (getD slacks v (pos 0))
-      split-within =
-          subst (Within termReach) (sym (ap (λ (y : ℕ). getD slacks y (pos 0)) split-is ∙ H .slacks-are at at-inserted))
-          (slack-within N (R .in-range) k (parentsAfter lowest N k) at (omega arith) (at-in .0) (at-in .1))
+          first-is N branch-pos k kN H (R .in-range) v
+          (subst (λ (m : ℕ). FirstLargest (score worst (pos (N .branch)) slacks) m v) (sym (R .size-is)) (subst (λ (c : ℤ). FirstLargest (score worst c slacks) n v) (R .branch-is) v-is))
 
       -- one insertion more
       pub insert-step : (slacks′ : List ℤ) (ps′ : List ℕ) (w : ℤ) (s b : ℕ) → n < length slacks → 2 * n ≤ length ps → s ≡ getD sinks (k + 1) 0 → b ≡ n + k + 1
@@ -433,7 +449,7 @@ module _ {N : Net} {h : Header} {n : ℕ} {own : List ℤ} {sinks : List ℕ} (R
           own-next = R .own-is s (omega (arith, s-next, next-in)) (omega (arith, s-next, next-in, R .size-is)) ∙ ap (ownSlack N) s-next
 
           own-at : getD own v (pos 0) ≡ ownSlack N at
-          own-at = R .own-is v (split-in .0) (split-in .1) ∙ ap (ownSlack N) split-is
+          own-at = R .own-is v (v-is .from) (v-is .to) ∙ ap (ownSlack N) split-is
 
           stored : slacks′ ≡ set (set slacks at lowered) next (ownSlack N next -ℤ ownSlack N at +ℤ lowered)
           stored =

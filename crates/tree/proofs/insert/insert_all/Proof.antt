@@ -27,39 +27,42 @@ mul-clear c = omega arith
 clear-requires : tie.Need-clear-requires Inv-loop μ-loop
 clear-requires c κs = omega arith
 
+none-in-requires : tie.Need-none-in-requires Inv-loop μ-loop
+none-in-requires c κs = omega arith
+
 shared-slice-read-first : tie.Need-shared-slice-read-first Inv-loop μ-loop
 shared-slice-read-first c =
-    let R = c .before .before .before .before .before .before .before .pre .0 .1 in
+    let R = c .before .before .before .before .before .before .before .before .before .before .pre .0 .1 in
     omega (arith, some-sink R)
 
 mul-slacks : tie.Need-mul-slacks Inv-loop μ-loop
 mul-slacks c =
-    let R = c .before .before .before .before .before .before .before .pre .0 .1 in
+    let R = c .before .before .before .before .before .before .before .before .before .before .pre .0 .1 in
     omega (arith, sink-in R 0 (some-sink R .0))
 
 shared-slice-copy-out-slacks : tie.Need-shared-slice-copy-out-slacks Inv-loop μ-loop
 shared-slice-copy-out-slacks c =
-    let R = c .before .before .before .before .before .before .before .pre .0 .1 in
+    let R = c .before .before .before .before .before .before .before .before .before .before .pre .0 .1 in
     omega (arith, sink-in R 0 (some-sink R .0))
 
 mul-of : tie.Need-mul-of Inv-loop μ-loop
 mul-of c =
-    let R = c .before .before .before .before .before .before .before .before .pre .0 .1 in
+    let R = c .before .before .before .before .before .before .before .before .before .before .before .pre .0 .1 in
     omega (arith, sink-in R 0 (some-sink R .0))
 
 slice-set-from-of : tie.Need-slice-set-from-of Inv-loop μ-loop
 slice-set-from-of c =
-    let R = c .before .before .before .before .before .before .before .before .pre .0 .1 in
+    let R = c .before .before .before .before .before .before .before .before .before .before .before .pre .0 .1 in
     omega (arith, sink-in R 0 (some-sink R .0))
 
 mul-of-2 : tie.Need-mul-of-2 Inv-loop μ-loop
 mul-of-2 c =
-    let R = c .before .before .before .before .before .before .before .before .pre .0 .1 in
+    let R = c .before .before .before .before .before .before .before .before .before .before .before .pre .0 .1 in
     omega (arith, sink-in R 0 (some-sink R .0))
 
 shared-slice-copy-out-of : tie.Need-shared-slice-copy-out-of Inv-loop μ-loop
 shared-slice-copy-out-of c =
-    let R = c .before .before .before .before .before .before .before .before .pre .0 .1 in
+    let R = c .before .before .before .before .before .before .before .before .before .before .before .pre .0 .1 in
     omega (arith, sink-in R 0 (some-sink R .0))
 
 of-requires : tie.Need-of-requires Inv-loop μ-loop
@@ -67,15 +70,16 @@ of-requires c κs = tt
 
 loop-holds : tie.Need-loop-holds Inv-loop μ-loop
 loop-holds c =
-    let s = c .before .before .before .before .before .before .before .before .before .before in
+    let s = c .before .before .before .before .before .before .before .before .before .before .before .before .before in
     let a = s .args in
     let first = getD (a .sinks .now) 0 0 in
-    let mine = getD (a .own .now) first (pos 0) in (
+    let mine = getD (a .own .now) first (pos 0) in
+    let empty = c .before .before .before .before .before .none-in in (
       omega (arith, some-sink (s .pre .0 .1)),
       refl,
       refl,
-      λ N R. subst (Inserted N 0 (set (a .slacks .now) first (rd mine)) (c .before .before .before .before .before .before .clear .last .0)) (sym (c .of .ensures))
-          (insert-first R (a .slacks .now) (c .before .before .before .before .before .before .clear .last .0) (rd mine) (omega arith) (c .before .before .before .before .before .before .clear .ensures) (toZ-ofZ (fit mine (c .before .of-arg .given)))),
+      λ N R. subst (Inserted N 0 (set (empty .last .0) first (rd mine)) (c .before .before .before .before .before .before .before .before .before .clear .last .0)) (sym (c .of .ensures))
+          (insert-first R (empty .last .0) (c .before .before .before .before .before .before .before .before .before .clear .last .0) (rd mine) (omega (arith, empty .kept .0)) (empty .ensures) (c .before .before .before .before .before .before .before .before .before .clear .ensures) (toZ-ofZ (fit mine (c .before .of-arg .given)))),
     )
 
 add-loop : tie.Need-add-loop Inv-loop μ-loop
@@ -83,12 +87,13 @@ add-loop c = omega arith
 
 insert-next-requires : tie.Need-insert-next-requires Inv-loop μ-loop
 insert-next-requires c κs =
-    let s = c .before .before .before .before .before .before .before .before .before .before .before .before .before .before in
+    let s = c .before .before .before .before .before .before .before .before .before .before .before .before .before .before .before .before .before in
     let a = s .args in
     let first = getD (a .sinks .now) 0 0 in
     let R = s .pre .0 .1 in
     let l = c .before .before .before .loop in
-    ((s .pre .0 .0, (R, l .inv .3 (s .pre .0 .0) R)), omega (arith, l .inv .1, l .inv .2, c .before .before .before .before .before .before .before .before .before .before .clear .kept .0, length-set (a .slacks .now) first (rd (getD (a .own .now) first (pos 0)))))
+    let empty = c .before .before .before .before .before .before .before .before .before .none-in in
+    ((s .pre .0 .0, (R, l .inv .3 (s .pre .0 .0) R)), omega (arith, l .inv .1, l .inv .2, c .before .before .before .before .before .before .before .before .before .before .before .before .before .clear .kept .0, empty .kept .0, length-set (empty .last .0) first (rd (getD (a .own .now) first (pos 0)))))
 
 add-k : tie.Need-add-k Inv-loop μ-loop
 add-k c = omega arith
@@ -108,17 +113,18 @@ loop-again c =
 
 same-length : tie.Need-same-length Inv-loop μ-loop
 same-length c =
-    let a = c .before .before .before .before .before .before .before .before .before .before .before .before .args in
+    let a = c .before .before .before .before .before .before .before .before .before .before .before .before .before .before .before .args in
     let first = getD (a .sinks .now) 0 0 in
-    c .before .loop .inv .1 ∙ length-set (a .slacks .now) first (rd (getD (a .own .now) first (pos 0)))
+    let empty = c .before .before .before .before .before .before .before .none-in in
+    c .before .loop .inv .1 ∙ length-set (empty .last .0) first (rd (getD (a .own .now) first (pos 0))) ∙ empty .kept .0
 
 same-length-2 : tie.Need-same-length-2 Inv-loop μ-loop
-same-length-2 c = c .before .loop .inv .2 ∙ c .before .before .before .before .before .before .before .before .clear .kept .0
+same-length-2 c = c .before .loop .inv .2 ∙ c .before .before .before .before .before .before .before .before .before .before .before .clear .kept .0
 
 returns : tie.Need-returns Inv-loop μ-loop
 returns c =
     let l = c .before .loop in
-    let done : c .before .before .before .before .before .before .before .before .before .before .before .before .args .n ≡ suc (l .k) = omega arith in
+    let done : c .before .before .before .before .before .before .before .before .before .before .before .before .before .before .before .args .n ≡ suc (l .k) = omega arith in
     ((λ N R. insert-end R (l .inv .3 N R) done .0), λ N R. insert-end R (l .inv .3 N R) done .1)
 
 pub insert-all-spec : {M : Type 1} → statement M
@@ -129,6 +135,7 @@ insert-all-spec =
     μ-loop
     mul-clear
     clear-requires
+    none-in-requires
     shared-slice-read-first
     mul-slacks
     shared-slice-copy-out-slacks

@@ -5,7 +5,7 @@ use lib.ListN.{getD}
 use native.Mathlib.Omega.{arith}
 use borrow.Author.Needs.{needs}
 use mathlib.Core.Path.{refl}
-use Rattle.tree.proofs.Laws.Inserting.{branch-within, sink-in, own-slack-within, sink-within, split-in, split-within, insert-step}
+use Rattle.tree.proofs.Laws.Inserting.{branch-within, sink-in, own-slack-within, place-within, insert-step}
 use Rattle.tree.proofs.insert.insert_next.Statement.{statement}
 use Rattle.tree.proofs.insert.insert_next.Tie as tie
 
@@ -14,7 +14,7 @@ choose-requires c κs =
     let p = c .before .before .before .before .pre in
     let R = p .0 .1 .0 in
     let I = p .0 .1 .1 in
-    ((omega arith, branch-within R), λ i q. (omega (arith, sink-in R i (omega arith)), sink-within R I i (omega arith) q))
+    ((omega arith, omega arith, branch-within R), λ u from to. place-within R I u (omega arith) from to)
 
 score-of-requires : tie.Need-score-of-requires
 score-of-requires c κs =
@@ -22,7 +22,7 @@ score-of-requires c κs =
     let R = p .0 .1 .0 in
     let I = p .0 .1 .1 in
     let v = c .before .choose in
-    (omega (arith, split-in R I (omega arith) (v .ensures)), split-within R I (omega arith) (v .ensures), branch-within R)
+    (omega (arith, v .ensures .to), place-within R I (v .result) (omega arith) (v .ensures .from) (v .ensures .to), branch-within R)
 
 add-s : tie.Need-add-s
 add-s c = search needs
@@ -46,7 +46,7 @@ split-edge-requires c κs =
     let R = p .0 .1 .0 in
     let I = p .0 .1 .1 in
     let v = c .before .before .before .before .choose in
-    omega (arith, split-in R I (omega arith) (v .ensures), sink-in R (s .args .k + 1) (omega arith))
+    omega (arith, v .ensures .from, v .ensures .to, sink-in R (s .args .k + 1) (omega arith))
 
 deepen-requires : tie.Need-deepen-requires
 deepen-requires c κs =
@@ -54,9 +54,10 @@ deepen-requires c κs =
     let R = s .pre .0 .1 .0 in
     let I = s .pre .0 .1 .1 in
     let v = c .before .before .before .before .before .before .before .before .choose in
-    let q = split-in R I (omega arith) (v .ensures) in
+    let from = v .ensures .from in
+    let to = v .ensures .to in
     let t = sink-in R (s .args .k + 1) (omega arith) in
-    (omega arith, (branch-within R, split-within R I (omega arith) (v .ensures), own-slack-within R (v .result) (q .0) (q .1), own-slack-within R (getD (s .args .sinks .now) (s .args .k + 1) 0) (t .0) (t .1)))
+    (omega arith, (branch-within R, place-within R I (v .result) (omega arith) from to, own-slack-within R (v .result) from to, own-slack-within R (getD (s .args .sinks .now) (s .args .k + 1) 0) (t .0) (t .1)))
 
 same-length : tie.Need-same-length
 same-length c = search needs
