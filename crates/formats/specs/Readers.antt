@@ -33,12 +33,12 @@ fromSinks h root n s = readSinks n 6 s (λ sinks r. ended (n + 6) r (netFrom h r
 
 -- what is left to read after the first five lines
 abbrev pub afterHead : Head → List ℕ → Outcome Net
-afterHead (HeadRead h root n next) s = fromSinks h root n (drop next s)
+afterHead (HeadRead h root n next) s = fromSinks h root n (drop (next .at) s)
 afterHead (HeadRefused number line) s = refused number line
 
--- the sinks are few enough for the arrays, and their lines start in the text
+-- the sinks are few enough for the arrays, and their lines start in the text, with line 6
 abbrev pub HeadWithin : Head → List ℕ → Type 0
-HeadWithin (HeadRead h root n next) s = (n ≤ sinkLimit) × (next ≤ length s)
+HeadWithin (HeadRead h root n next) s = (n ≤ sinkLimit) × (next .at ≤ length s) × (next .line ≡ 6)
 HeadWithin (HeadRefused number line) s = Unit {0}
 
 -- the lines from `sinks=` on, where those before it are read; then from each line before it on

@@ -14,6 +14,7 @@ use crate::read_net::Head;
 use crate::read_net::NetRead;
 use crate::read_net::read_head;
 use crate::read_net::read_rest;
+use crate::reader::Place;
 use quantities::length::Length;
 use quantities::point::Point;
 use quantities::time::Time;
@@ -174,7 +175,7 @@ fn judge_rest(
     header: Header,
     root: Point,
     n: usize,
-    next: usize,
+    next: Place,
     xs: &mut [i64],
     ys: &mut [i64],
     required: &mut [i64],
@@ -184,7 +185,7 @@ fn judge_rest(
     room: &mut [usize],
     listing: &[u8],
 ) -> JudgeAnswer
-    requires head { ⌜ (readNet (now net) ≡ fromSinks header root n (drop next (now net))) × (n ≤ 512) × (next ≤ length (now net)) ⌝ }
+    requires head { ⌜ (readNet (now net) ≡ fromSinks header root n (drop (next .at) (now net))) × (n ≤ 512) × (next .at ≤ length (now net)) × (next .line ≡ 6) ⌝ }
     requires room { ⌜ (n < length (now xs)) × (2 * n ≤ length (now xs)) × (n < length (now ys)) × (2 * n ≤ length (now ys)) × (n < length (now required)) × (2 * n ≤ length (now parents)) × (n < length (now own)) × (n < length (now slacks)) × (2 * n ≤ length (now room)) ⌝ }
     ensures { λ r. ⌜ judgeFigures r ≡ judgeOf (now (net .entry)) (now (listing .entry)) ⌝ }
 {
@@ -215,10 +216,10 @@ fn judge_small(
     header: Header,
     root: Point,
     n: usize,
-    next: usize,
+    next: Place,
     listing: &[u8],
 ) -> JudgeAnswer
-    requires head { ⌜ (readNet (now net) ≡ fromSinks header root n (drop next (now net))) × (n ≤ 16) × (next ≤ length (now net)) ⌝ }
+    requires head { ⌜ (readNet (now net) ≡ fromSinks header root n (drop (next .at) (now net))) × (n ≤ 16) × (next .at ≤ length (now net)) × (next .line ≡ 6) ⌝ }
     ensures { λ r. ⌜ judgeFigures r ≡ judgeOf (now (net .entry)) (now (listing .entry)) ⌝ }
 {
     let mut xs = [0i64; 32];
@@ -251,10 +252,10 @@ fn judge_large(
     header: Header,
     root: Point,
     n: usize,
-    next: usize,
+    next: Place,
     listing: &[u8],
 ) -> JudgeAnswer
-    requires head { ⌜ (readNet (now net) ≡ fromSinks header root n (drop next (now net))) × (n ≤ 512) × (next ≤ length (now net)) ⌝ }
+    requires head { ⌜ (readNet (now net) ≡ fromSinks header root n (drop (next .at) (now net))) × (n ≤ 512) × (next .at ≤ length (now net)) × (next .line ≡ 6) ⌝ }
     ensures { λ r. ⌜ judgeFigures r ≡ judgeOf (now (net .entry)) (now (listing .entry)) ⌝ }
 {
     let mut xs = [0i64; 1024];

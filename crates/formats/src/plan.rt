@@ -14,6 +14,7 @@ use crate::read_net::Head;
 use crate::read_net::NetRead;
 use crate::read_net::read_head;
 use crate::read_net::read_rest;
+use crate::reader::Place;
 use crate::write::put_bytes;
 use crate::write_listing::write_listing;
 use quantities::length::Length;
@@ -111,7 +112,7 @@ fn plan_rest(
     header: Header,
     root: Point,
     n: usize,
-    next: usize,
+    next: Place,
     xs: &mut [i64],
     ys: &mut [i64],
     required: &mut [i64],
@@ -121,7 +122,7 @@ fn plan_rest(
     room: &mut [usize],
     out: &mut [u8],
 ) -> PlanAnswer
-    requires head { ⌜ (readNet (now net) ≡ fromSinks header root n (drop next (now net))) × (n ≤ 512) × (next ≤ length (now net)) ⌝ }
+    requires head { ⌜ (readNet (now net) ≡ fromSinks header root n (drop (next .at) (now net))) × (n ≤ 512) × (next .at ≤ length (now net)) × (next .line ≡ 6) ⌝ }
     requires room { ⌜ (n < length (now xs)) × (2 * n ≤ length (now xs)) × (n < length (now ys)) × (2 * n ≤ length (now ys)) × (n < length (now required)) × (2 * n ≤ length (now parents)) × (n < length (now own)) × (n < length (now slacks)) × (4 * n ≤ length (now room)) ⌝ }
     ensures figures { λ r. ⌜ planFigures r ≡ planOf (now (net .entry)) (length (now (out .entry))) ⌝ }
     ensures output { λ r. ⌜ now (out .exit) ≡ planOutput (now (net .entry)) (now (out .entry)) ⌝ }
@@ -142,10 +143,10 @@ fn plan_small(
     header: Header,
     root: Point,
     n: usize,
-    next: usize,
+    next: Place,
     out: &mut [u8],
 ) -> PlanAnswer
-    requires head { ⌜ (readNet (now net) ≡ fromSinks header root n (drop next (now net))) × (n ≤ 16) × (next ≤ length (now net)) ⌝ }
+    requires head { ⌜ (readNet (now net) ≡ fromSinks header root n (drop (next .at) (now net))) × (n ≤ 16) × (next .at ≤ length (now net)) × (next .line ≡ 6) ⌝ }
     ensures figures { λ r. ⌜ planFigures r ≡ planOf (now (net .entry)) (length (now (out .entry))) ⌝ }
     ensures output { λ r. ⌜ now (out .exit) ≡ planOutput (now (net .entry)) (now (out .entry)) ⌝ }
 {
@@ -179,10 +180,10 @@ fn plan_large(
     header: Header,
     root: Point,
     n: usize,
-    next: usize,
+    next: Place,
     out: &mut [u8],
 ) -> PlanAnswer
-    requires head { ⌜ (readNet (now net) ≡ fromSinks header root n (drop next (now net))) × (n ≤ 512) × (next ≤ length (now net)) ⌝ }
+    requires head { ⌜ (readNet (now net) ≡ fromSinks header root n (drop (next .at) (now net))) × (n ≤ 512) × (next .at ≤ length (now net)) × (next .line ≡ 6) ⌝ }
     ensures figures { λ r. ⌜ planFigures r ≡ planOf (now (net .entry)) (length (now (out .entry))) ⌝ }
     ensures output { λ r. ⌜ now (out .exit) ≡ planOutput (now (net .entry)) (now (out .entry)) ⌝ }
 {

@@ -25,16 +25,13 @@ use quantities::time::Time;
 use quantities::wire_factor::WireFactor;
 use tree::header::Header;
 
-// The line of sink 1.
-const FIRST_SINK_LINE: usize = 6;
-
 // The first five lines, and where the sinks' lines start; or the number and the line of a refusal.
 pub enum Head {
     HeadRead {
         header: Header,
         root: Point,
         n: usize,
-        next: usize,
+        next: Place,
     },
     HeadRefused {
         number: u8,
@@ -149,7 +146,7 @@ fn read_count(text: &[u8], here: Place, root: Point, header: Header) -> Head
         header,
         root,
         n,
-        next: next.at,
+        next,
     }
 }
 
@@ -189,19 +186,16 @@ fn read_sink(
 // The lines of the n sinks, and no bytes after them.
 fn read_sinks(
     text: &[u8],
-    start: usize,
+    from: Place,
     n: usize,
     xs: &mut [i64],
     ys: &mut [i64],
     required: &mut [i64],
 ) -> NetRead
-    requires { ⌜ (start ≤ length (now text)) × (n ≤ 512) × (n < length (now xs)) × (n < length (now ys)) × (n < length (now required)) ⌝ }
-    ensures { λ r. ⌜ ((h : Header) → fromSinks h (pointAt (now (xs .entry)) (now (ys .entry)) 0) n (drop start (now (text .entry))) ≡ netOutcome h n r (now (xs .exit)) (now (ys .exit)) (now (required .exit))) ⌝ }
+    requires { ⌜ (from .at ≤ length (now text)) × (from .line ≡ 6) × (n ≤ 512) × (n < length (now xs)) × (n < length (now ys)) × (n < length (now required)) ⌝ }
+    ensures { λ r. ⌜ ((h : Header) → fromSinks h (pointAt (now (xs .entry)) (now (ys .entry)) 0) n (drop (from .at) (now (text .entry))) ≡ netOutcome h n r (now (xs .exit)) (now (ys .exit)) (now (required .exit))) ⌝ }
 {
-    let mut here = Place {
-        at: start,
-        line: FIRST_SINK_LINE,
-    };
+    let mut here = from;
     let mut done = 0;
     while done < n {
         match read_sink(text, here, done + 1, xs, ys, required) {
@@ -231,13 +225,13 @@ pub fn read_rest(
     text: &[u8],
     root: Point,
     n: usize,
-    next: usize,
+    next: Place,
     xs: &mut [i64],
     ys: &mut [i64],
     required: &mut [i64],
 ) -> NetRead
-    requires { ⌜ (next ≤ length (now text)) × (n ≤ 512) × (n < length (now xs)) × (n < length (now ys)) × (n < length (now required)) ⌝ }
-    ensures { λ r. ⌜ ((h : Header) → fromSinks h root n (drop next (now (text .entry))) ≡ netOutcome h n r (now (xs .exit)) (now (ys .exit)) (now (required .exit))) ⌝ }
+    requires { ⌜ (next .at ≤ length (now text)) × (next .line ≡ 6) × (n ≤ 512) × (n < length (now xs)) × (n < length (now ys)) × (n < length (now required)) ⌝ }
+    ensures { λ r. ⌜ ((h : Header) → fromSinks h root n (drop (next .at) (now (text .entry))) ≡ netOutcome h n r (now (xs .exit)) (now (ys .exit)) (now (required .exit))) ⌝ }
 {
     let x = root.x;
     let y = root.y;

@@ -22,6 +22,7 @@ use Rattle.formats.specs.Readers.{netFrom, afterHead, HeadWithin, Heads,
 use Rattle.formats.specs.declared.read_net.Head.{Head}
 use Rattle.formats.specs.declared.read_net.Head.the-variants.{HeadRead, HeadRefused}
 use Rattle.formats.specs.declared.scan.Numbers.{Numbers}
+use Rattle.formats.specs.declared.reader.Place.{Place}
 use Rattle.formats.specs.declared.scan.Line.the-variants.{Spelt, Misspelled}
 use Rattle.formats.proofs.Laws.Due.{valueOf, value-abs, value-most, and-first, AllNarrow, Passed, Failed, AllSmall, listed, values, next-line, due-wrong, due-out, due-in, due-small, due-inside}
 
@@ -76,12 +77,12 @@ module _ (s : List ℕ) (at : ℕ) (ns : Numbers) (next : ℕ) where
   pub need-read : Taken needKey (around needLimit ∷ []) s at ns next → (root : Point) (c d : ℕ) (a : ℤ) → a ≡ valueOf (ns .first) → (r : Head) → Heads (fromCount root c d a (drop next s)) s r → Heads (fromNeed root c d (drop at s)) s r
   need-read t root c d a e r h = heads-in t 4 _ r (rw (← e) h)
 
-  pub count-read : Taken sinksKey (upTo sinkLimit ∷ []) s at ns next → at ≤ length s → (root : Point) (h : Header) → Heads (fromCount root (up (h .branch .0)) (h .wire .0) (h .need .0) (drop at s)) s (HeadRead h root (ns .first .mag) next)
-  count-read t b root h =
-      heads-in t 5 _ _ (record {
-        reads = ap (λ (k : ℕ). readSinks k 6 (drop next s) (λ sinks r. ended (k + 6) r (netFrom h root sinks))) (value-abs (ns .first));
-        within = (value-most 1 sinkLimit (ns .first) (and-first _ _ (taken-inside t)), taken-next t b .1);
-      })
+pub count-read : (s : List ℕ) (at : ℕ) (ns : Numbers) (next : Place) → Taken sinksKey (upTo sinkLimit ∷ []) s at ns (next .at) → next .line ≡ 6 → at ≤ length s → (root : Point) (h : Header) → Heads (fromCount root (up (h .branch .0)) (h .wire .0) (h .need .0) (drop at s)) s (HeadRead h root (ns .first .mag) next)
+count-read s at ns next t l b root h =
+    heads-in t 5 _ _ (record {
+      reads = ap (λ (k : ℕ). readSinks k 6 (drop (next .at) s) (λ sinks r. ended (k + 6) r (netFrom h root sinks))) (value-abs (ns .first));
+      within = (value-most 1 sinkLimit (ns .first) (and-first _ _ (taken-inside t)), taken-next t b .1, l);
+    })
 
 -- ---- "length first"
 

@@ -74,21 +74,21 @@ pub record Sinking (root : Point) (n : ℕ) (s : List ℕ) (start : ℕ) (xs ys 
   pub root-is : root ≡ pointAt xs ys 0
   pub reads : (h : Header) → fromSinks h root n (drop start s) ≡ restSinks h root n (n - done) (6 + done) (drop (here .at) s) (heldSinks xs ys required done)
 
-module _ (root : Point) (n : ℕ) (s : List ℕ) (start : ℕ) (xs ys required : List ℤ) where
-  pub sinking-start : start ≤ length s → n < length xs → n < length ys → n < length required → root ≡ pointAt xs ys 0 → Sinking root n s start xs ys required (record { at = start; line = 6 }) 0
-  sinking-start p px py pr r =
-      let e : n ≡ n - 0 = omega arith in
-      record {
-        within = p;
-        line-is = refl;
-        few = omega arith;
-        xs-long = px;
-        ys-long = py;
-        required-long = pr;
-        root-is = r;
-        reads = λ h. ap (λ (k : ℕ). restSinks h root n k 6 (drop start s) []) e;
-      }
+pub sinking-start : (root : Point) (n : ℕ) (s : List ℕ) (from : Place) (xs ys required : List ℤ) → from .at ≤ length s → from .line ≡ 6 → n < length xs → n < length ys → n < length required → root ≡ pointAt xs ys 0 → Sinking root n s (from .at) xs ys required from 0
+sinking-start root n s from xs ys required p l px py pr r =
+    let e : n ≡ n - 0 = omega arith in
+    record {
+      within = p;
+      line-is = l;
+      few = omega arith;
+      xs-long = px;
+      ys-long = py;
+      required-long = pr;
+      root-is = r;
+      reads = λ h. ap (λ (k : ℕ). restSinks h root n k 6 (drop (from .at) s) []) e;
+    }
 
+module _ (root : Point) (n : ℕ) (s : List ℕ) (start : ℕ) (xs ys required : List ℤ) where
   module _ (here : Place) (done : ℕ) (g : Sinking root n s start xs ys required here done) where
     sinking-due : (h : Header) → done < n → fromSinks h root n (drop start s) ≡ due (6 + done) sinkKey sinkRanges (drop (here .at) s) (moreSinks h root n done (heldSinks xs ys required done))
     sinking-due h p =

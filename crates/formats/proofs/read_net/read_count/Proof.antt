@@ -76,7 +76,8 @@ taken c =
 returns-3 : tie.Need-returns-3
 returns-3 c =
     let b = c .before .before .before .before .before .before .before .before .before in
-    count-read _ _ _ _ (taken c) (b .pre .0) (b .args .root) (b .args .header)
+    let t = c .before .before .before in
+    count-read _ _ _ (next t) (taken c) (omega (arith, there t .1, b .pre .1)) (b .pre .0) (b .args .root) (b .args .header)
 
 pub read-count-spec : {M : Type 1} → statement M
 read-count-spec =

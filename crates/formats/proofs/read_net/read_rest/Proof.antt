@@ -35,7 +35,7 @@ returns c h =
     let a = b .args in
     let ex = toZ-ofZ (fit (a .root .x) (c .before .before .before .before .before .before .before .before .struct-told .given .0 .1)) in
     let ey = toZ-ofZ (fit (a .root .y) (c .before .before .before .before .before .before .before .struct-told2 .given .1 .0 .1)) in
-    ap (λ (p : Point). fromSinks h p (a .n) (drop (a .next) (now (a .text)))) (root-stored (a .root) (now (a .xs)) (now (a .ys)) (omega (arith, b .pre .2)) (omega (arith, b .pre .3)) _ _ ex ey)
+    ap (λ (p : Point). fromSinks h p (a .n) (drop (a .next .at) (now (a .text)))) (root-stored (a .root) (now (a .xs)) (now (a .ys)) (omega (arith, b .pre .3)) (omega (arith, b .pre .4)) _ _ ex ey)
     ∙ c .before .before .before .read-sinks .ensures h
 
 pub read-rest-spec : {M : Type 1} → statement M

@@ -9,19 +9,19 @@ use Rattle.formats.proofs.read_net.read_sinks.Statement.{statement}
 use Rattle.formats.proofs.read_net.read_sinks.Tie as tie
 
 abbrev Inv-loop : tie.InvT-loop
-Inv-loop text start n xs₀ ys₀ required₀ here₀ done₀ xs ys required here done =
-    Sinking (pointAt xs₀ ys₀ 0) n text start xs ys required here done
+Inv-loop text n xs₀ ys₀ required₀ here₀ done₀ xs ys required here done =
+    Sinking (pointAt xs₀ ys₀ 0) n text (here₀ .at) xs ys required here done
     × (length xs ≡ length xs₀)
     × (length ys ≡ length ys₀)
     × (length required ≡ length required₀)
 
 abbrev μ-loop : tie.MeasureT-loop
-μ-loop text start n xs₀ ys₀ required₀ here₀ done₀ xs ys required here done = n - done
+μ-loop text n xs₀ ys₀ required₀ here₀ done₀ xs ys required here done = n - done
 
 loop-holds : tie.Need-loop-holds Inv-loop μ-loop
 loop-holds c =
     let b = c .before in
-    (sinking-start _ (b .args .n) _ _ _ _ _ (b .pre .0) (b .pre .2) (b .pre .3) (b .pre .4) refl, refl, refl, refl)
+    (sinking-start _ (b .args .n) _ (b .args .from) _ _ _ (b .pre .0) (b .pre .1) (b .pre .3) (b .pre .4) (b .pre .5) refl, refl, refl, refl)
 
 add-read-sink : tie.Need-add-read-sink Inv-loop μ-loop
 add-read-sink c = search needs
