@@ -1,6 +1,6 @@
 -- `insert::insert_next` meets its contract: what it calls makes the arrays of one insertion more. What the calls require comes from the one net that is given.
 -- Assumes nothing.
-use Prim.Native.Nat.{_+_}
+use Prim.Native.Nat.{_+_, _≤_}
 use lib.ListN.{getD}
 use native.Mathlib.Omega.{arith}
 use borrow.Author.Needs.{needs}
@@ -14,7 +14,7 @@ choose-requires c κs =
     let p = c .before .before .before .before .pre in
     let R = p .0 .1 .0 in
     let I = p .0 .1 .1 in
-    ((omega arith, omega arith, branch-within R), λ u from to. place-within R I u (omega arith) from to)
+    ((omega arith, omega arith, branch-within R), λ u from to. place-within R I u (omega arith) from (omega arith))
 
 score-of-requires : tie.Need-score-of-requires
 score-of-requires c κs =
@@ -22,7 +22,7 @@ score-of-requires c κs =
     let R = p .0 .1 .0 in
     let I = p .0 .1 .1 in
     let v = c .before .choose in
-    (omega (arith, v .ensures .to), place-within R I (v .result) (omega arith) (v .ensures .from) (v .ensures .to), branch-within R)
+    (omega (arith, v .ensures .to), place-within R I (v .result) (omega arith) (v .ensures .from) (omega (arith, v .ensures .to)), branch-within R)
 
 add-s : tie.Need-add-s
 add-s c = search needs
@@ -55,7 +55,7 @@ deepen-requires c κs =
     let I = s .pre .0 .1 .1 in
     let v = c .before .before .before .before .before .before .before .before .choose in
     let from = v .ensures .from in
-    let to = v .ensures .to in
+    let to : v .result ≤ s .args .n = omega (arith, v .ensures .to) in
     let t = sink-in R (s .args .k + 1) (omega arith) in
     (omega arith, (branch-within R, place-within R I (v .result) (omega arith) from to, own-slack-within R (v .result) from to, own-slack-within R (getD (s .args .sinks .now) (s .args .k + 1) 0) (t .0) (t .1)))
 
