@@ -21,7 +21,7 @@ use quantities::time::Time;
 use tree::children::wrong_children;
 use tree::found::Found;
 use tree::header::Header;
-use tree::measure::measure;
+use tree::measure::measure_tree;
 use tree::plan::kraft_maximum;
 use tree::reach::lowest_unreached;
 
@@ -51,7 +51,7 @@ fn judge_stated(
     requires { ⌜ (n < length (now own)) × (n < length (now slacks)) × (2 * n ≤ length (now room)) ⌝ }
     ensures { λ r. ⌜ judgeFigures r ≡ judgeFiguresOf (netOf header n (now (xs .entry)) (now (ys .entry)) (now (required .entry))) (record { slack = slack .0; wire = wire .0; tree = treeOf n (now (parents .entry)) (now (xs .entry)) (now (ys .entry)) }) ⌝ }
 {
-    let tally = measure(header, n, parents, xs, ys, required);
+    let tally = measure_tree(header, n, parents, xs, ys, required, slacks);
     let worst = tally.worst;
     let total = tally.wire;
     if slack.is_less(worst) {

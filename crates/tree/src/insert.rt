@@ -7,7 +7,7 @@ ghost use lib.IntN.{ℤ, pos, _+ℤ_, _-ℤ_};
 ghost use lib.Signed.{ltZ};
 ghost use Rattle.quantities.specs.Reach.{Within, termReach};
 ghost use Rattle.tree.specs.Net.{Net};
-ghost use Rattle.tree.specs.Measures.{worstSlack};
+ghost use Rattle.tree.specs.Measures.{slack, worstSlack};
 ghost use Rattle.tree.specs.Planning.{lowest, planParents};
 ghost use Rattle.tree.specs.Settling.{planBy};
 ghost use Rattle.tree.specs.Arrays.{parentsOf};
@@ -139,6 +139,7 @@ pub fn insert_all(
     requires { ⌜ (n < length (now slacks)) × (2 * n ≤ length (now parents)) ⌝ }
     ensures tree { λ r. ⌜ ((N : Net) → Ready N h n (now (own .entry)) (now (sinks .entry)) → parentsOf n (now (parents .exit)) ≡ planParents lowest N) ⌝ }
     ensures worst { λ r. ⌜ ((N : Net) → Ready N h n (now (own .entry)) (now (sinks .entry)) → r .0 ≡ worstSlack N (planBy lowest N)) ⌝ }
+    ensures slacks { λ r. ⌜ ((N : Net) → Ready N h n (now (own .entry)) (now (sinks .entry)) → (s : ℕ) → 1 ≤ s → s ≤ n → getD (now (slacks .exit)) s (pos 0) ≡ slack N (planBy lowest N) s) ⌝ }
 {
     clear(parents, 2 * n);
     none_in(slacks, n);

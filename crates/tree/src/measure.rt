@@ -1,6 +1,6 @@
 // The worst slack and the wire of a tree.
 ghost use mathlib.Core.Path.{_≡_};
-ghost use Prim.Native.Nat.{_+_, _*_, _≤_, _<_};
+ghost use Prim.Native.Nat.{ℕ, _+_, _*_, _≤_, _<_};
 ghost use lib.ListN.{length, getD};
 ghost use mathlib.Core.List.{List};
 ghost use lib.Dec.{ltb};
@@ -11,7 +11,7 @@ ghost use Rattle.tree.specs.Net.{delay};
 ghost use Rattle.tree.specs.Measures.{pathDelay, oneIf, depth, slack, worstSlack, wireLength};
 ghost use Rattle.tree.specs.Limits.{positionLimit, wireFactorLimit};
 ghost use Rattle.tree.specs.Arrays.{pointAt, lengthAbove, netOf, treeOf, HoldsNet, HoldsTree};
-ghost use Rattle.tree.specs.Tallies.{firstCounted, counted};
+ghost use Rattle.tree.specs.Tallies.{slackAt, firstCounted, counted, leastSlack, edgeSum};
 use crate::header::Header;
 use quantities::length::Length;
 use quantities::point::Point;
@@ -48,20 +48,6 @@ pub fn edge_length(n: usize, parents: &[usize], xs: &[i64], ys: &[i64], v: usize
 {
     let p = parents[v];
     distance(point(xs, ys, p), point(xs, ys, v))
-}
-
-// The sum of all edges.
-pub fn wire_length(n: usize, parents: &[usize], xs: &[i64], ys: &[i64]) -> Length
-    requires { ⌜ HoldsTree n (now parents) (now xs) (now ys) ⌝ }
-    ensures { λ r. ⌜ ((h : Header) (required : List ℤ) → r .0 ≡ wireLength (netOf h n (now (xs .entry)) (now (ys .entry)) required) (treeOf n (now (parents .entry)) (now (xs .entry)) (now (ys .entry)))) ⌝ }
-{
-    let mut wire = Length::of(0);
-    let mut v = 1;
-    while v < 2 * n {
-        wire = wire.plus(edge_length(n, parents, xs, ys, v));
-        v += 1;
-    }
-    wire
 }
 
 // What the way from the root to a vertex costs: its delay, and the branch points on it.
@@ -140,19 +126,12 @@ pub fn sink_slack(
 }
 
 // The tally of vertex 1, a sink.
-fn first_vertex(
-    h: Header,
-    n: usize,
-    parents: &[usize],
-    xs: &[i64],
-    ys: &[i64],
-    required: &[i64],
-) -> Tally
-    requires { ⌜ HoldsNet h n (now xs) (now ys) (now required) × HoldsTree n (now parents) (now xs) (now ys) ⌝ }
-    ensures { λ r. ⌜ r ≡ firstCounted (netOf h n (now (xs .entry)) (now (ys .entry)) (now (required .entry))) (treeOf n (now (parents .entry)) (now (xs .entry)) (now (ys .entry))) ⌝ }
+fn first_vertex(n: usize, parents: &[usize], xs: &[i64], ys: &[i64], slacks: &[i64]) -> Tally
+    requires { ⌜ HoldsTree n (now parents) (now xs) (now ys) × (n < length (now slacks)) ⌝ }
+    ensures { λ r. ⌜ r ≡ firstCounted (now (parents .entry)) (now (xs .entry)) (now (ys .entry)) (now (slacks .entry)) ⌝ }
 {
     Tally {
-        worst: sink_slack(h, n, parents, xs, ys, required, 1),
+        worst: Time::of(slacks[1]),
         wire: edge_length(n, parents, xs, ys, 1),
     }
 }
@@ -160,16 +139,15 @@ fn first_vertex(
 // The tally with vertex v counted in.
 fn with_vertex(
     tally: Tally,
-    h: Header,
     n: usize,
     parents: &[usize],
     xs: &[i64],
     ys: &[i64],
-    required: &[i64],
+    slacks: &[i64],
     v: usize,
 ) -> Tally
-    requires { ⌜ HoldsNet h n (now xs) (now ys) (now required) × HoldsTree n (now parents) (now xs) (now ys) × (1 ≤ v) × (v < 2 * n) × (tally .wire .0 ≤ lengthReach) ⌝ }
-    ensures { λ r. ⌜ r ≡ counted (netOf h n (now (xs .entry)) (now (ys .entry)) (now (required .entry))) (treeOf n (now (parents .entry)) (now (xs .entry)) (now (ys .entry))) n v tally ⌝ }
+    requires { ⌜ HoldsTree n (now parents) (now xs) (now ys) × (n < length (now slacks)) × (1 ≤ v) × (v < 2 * n) × (tally .wire .0 ≤ lengthReach) ⌝ }
+    ensures { λ r. ⌜ r ≡ counted n (now (parents .entry)) (now (xs .entry)) (now (ys .entry)) (now (slacks .entry)) v tally ⌝ }
 {
     let worst = tally.worst;
     let before = tally.wire;
@@ -178,7 +156,7 @@ fn with_vertex(
         return Tally { worst, wire };
     }
     Tally {
-        worst: worst.least(sink_slack(h, n, parents, xs, ys, required, v)),
+        worst: worst.least(Time::of(slacks[v])),
         wire,
     }
 }
@@ -186,36 +164,66 @@ fn with_vertex(
 // The measuring step: vertex v is counted into the tally that is lent.
 fn count_vertex(
     tally: &mut Tally,
-    h: Header,
     n: usize,
     parents: &[usize],
     xs: &[i64],
     ys: &[i64],
-    required: &[i64],
+    slacks: &[i64],
     v: usize,
 )
-    requires { ⌜ HoldsNet h n (now xs) (now ys) (now required) × HoldsTree n (now parents) (now xs) (now ys) × (1 ≤ v) × (v < 2 * n) × (now tally .wire .0 ≤ lengthReach) ⌝ }
-    ensures { λ _. ⌜ now (tally .exit) ≡ counted (netOf h n (now (xs .entry)) (now (ys .entry)) (now (required .entry))) (treeOf n (now (parents .entry)) (now (xs .entry)) (now (ys .entry))) n v (now (tally .entry)) ⌝ }
+    requires { ⌜ HoldsTree n (now parents) (now xs) (now ys) × (n < length (now slacks)) × (1 ≤ v) × (v < 2 * n) × (now tally .wire .0 ≤ lengthReach) ⌝ }
+    ensures { λ _. ⌜ now (tally .exit) ≡ counted n (now (parents .entry)) (now (xs .entry)) (now (ys .entry)) (now (slacks .entry)) v (now (tally .entry)) ⌝ }
 {
-    *tally = with_vertex(*tally, h, n, parents, xs, ys, required, v);
+    *tally = with_vertex(*tally, n, parents, xs, ys, slacks, v);
 }
 
-// The worst slack and the wire of a tree, legal or not: one tally is lent from vertex to vertex.
-pub fn measure(
+// The worst slack and the wire of a tree whose sinks' slacks are known: one tally is lent from vertex to vertex.
+pub fn measure(n: usize, parents: &[usize], xs: &[i64], ys: &[i64], slacks: &[i64]) -> Tally
+    requires { ⌜ HoldsTree n (now parents) (now xs) (now ys) × (n < length (now slacks)) ⌝ }
+    ensures worst { λ r. ⌜ r .worst .0 ≡ leastSlack n (now (slacks .entry)) ⌝ }
+    ensures wire { λ r. ⌜ r .wire .0 ≡ edgeSum n (now (parents .entry)) (now (xs .entry)) (now (ys .entry)) ⌝ }
+{
+    let mut tally = first_vertex(n, parents, xs, ys, slacks);
+    for v in 2..2 * n {
+        count_vertex(&mut tally, n, parents, xs, ys, slacks, v);
+    }
+    tally
+}
+
+// The slack of each sink, at the place of its number.
+fn sink_slacks(
     h: Header,
     n: usize,
     parents: &[usize],
     xs: &[i64],
     ys: &[i64],
     required: &[i64],
+    slacks: &mut [i64],
+)
+    requires { ⌜ HoldsNet h n (now xs) (now ys) (now required) × HoldsTree n (now parents) (now xs) (now ys) × (n < length (now slacks)) ⌝ }
+    ensures { λ r. ⌜ ((s : ℕ) → 1 ≤ s → s ≤ n → slackAt (now (slacks .exit)) s ≡ slack (netOf h n (now (xs .entry)) (now (ys .entry)) (now (required .entry))) (treeOf n (now (parents .entry)) (now (xs .entry)) (now (ys .entry))) s) ⌝ }
+{
+    let mut s = 1;
+    while s <= n {
+        slacks[s] = sink_slack(h, n, parents, xs, ys, required, s).value();
+        s += 1;
+    }
+}
+
+// The worst slack and the wire of a tree, legal or not. `slacks` is room for the slacks of the sinks.
+pub fn measure_tree(
+    h: Header,
+    n: usize,
+    parents: &[usize],
+    xs: &[i64],
+    ys: &[i64],
+    required: &[i64],
+    slacks: &mut [i64],
 ) -> Tally
-    requires { ⌜ HoldsNet h n (now xs) (now ys) (now required) × HoldsTree n (now parents) (now xs) (now ys) ⌝ }
+    requires { ⌜ HoldsNet h n (now xs) (now ys) (now required) × HoldsTree n (now parents) (now xs) (now ys) × (n < length (now slacks)) ⌝ }
     ensures worst { λ r. ⌜ r .worst .0 ≡ worstSlack (netOf h n (now (xs .entry)) (now (ys .entry)) (now (required .entry))) (treeOf n (now (parents .entry)) (now (xs .entry)) (now (ys .entry))) ⌝ }
     ensures wire { λ r. ⌜ r .wire .0 ≡ wireLength (netOf h n (now (xs .entry)) (now (ys .entry)) (now (required .entry))) (treeOf n (now (parents .entry)) (now (xs .entry)) (now (ys .entry))) ⌝ }
 {
-    let mut tally = first_vertex(h, n, parents, xs, ys, required);
-    for v in 2..2 * n {
-        count_vertex(&mut tally, h, n, parents, xs, ys, required, v);
-    }
-    tally
+    sink_slacks(h, n, parents, xs, ys, required, slacks);
+    measure(n, parents, xs, ys, slacks)
 }

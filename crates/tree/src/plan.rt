@@ -12,7 +12,7 @@ ghost use Rattle.tree.specs.Arrays.{pointAt, netOf, treeOf, HoldsNet};
 use crate::header::Header;
 use crate::insert::insert_all;
 use crate::measure::Tally;
-use crate::measure::wire_length;
+use crate::measure::measure;
 use crate::order::order_sinks;
 use crate::order::own_slacks;
 use crate::settle::settle;
@@ -40,10 +40,9 @@ pub fn plan(
 {
     own_slacks(h, n, xs, ys, required, own);
     order_sinks(n, own, room);
-    let worst = insert_all(h, n, own, room, slacks, parents);
+    insert_all(h, n, own, room, slacks, parents);
     settle(n, parents, xs, ys, room);
-    let wire = wire_length(n, parents, xs, ys);
-    Tally { worst, wire }
+    measure(n, parents, xs, ys, slacks)
 }
 
 // The Kraft maximum: the worst slack of the plan, which needs no settling. The lent arrays but for the net's are room to work in.

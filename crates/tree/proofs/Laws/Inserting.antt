@@ -24,7 +24,7 @@ use Rattle.tree.specs.Settling.{planBy}
 use Rattle.tree.specs.Limits.{branchLimit, sinkLimit, requiredLimit, InRange}
 use Rattle.tree.specs.Arrays.{parentsOf}
 use Rattle.tree.specs.Insertion.{Ready, Inserted, FirstLargest, absent, score}
-use Rattle.tree.proofs.Laws.Sums.{delta-self, delta-ne, equal?}
+use Rattle.tree.proofs.Laws.Sums.{delta-self, delta-ne, equal?, down-once}
 use Rattle.tree.proofs.Laws.Walks.{hops, hops-le}
 use Rattle.tree.proofs.Laws.KraftSums.{depthIn}
 use Rattle.tree.proofs.Laws.Arrays.{parents-length, parents-at}
@@ -329,8 +329,17 @@ module _ (N : Net) (c1 : 0 < N .branch) (n1 : 1 ≤ size N) where
       let none : count y (drop m (order N)) ≡ 0 = ap (λ (i : ℕ). count y (drop i (order N))) e ∙ ap (count y) (drop-length (order N)) in
       omega (arith, newest-count (order N) y m (omega arith), order-count N y, range-count (size N) y)
 
-  worst-end : {slacks : List ℤ} {worst : ℤ} → Held N (size N - 1) slacks worst → worst ≡ worstSlack N (planBy lowest N)
+  -- settling changes no slack
+  slack-end : (y : ℕ) → 1 ≤ y → y ≤ size N → count y (inserted N (size N - 1)) ≢ 0 → slackAfter N (size N - 1) y ≡ slack N (planBy lowest N) y
   unfolding planBy
+  slack-end y y1 yN m = sym (settling N (planParents lowest N) (plan-legal N c1 n1 lowest .shape) y y1 yN ∙ slack-is N c1 (size N - 1) (omega arith) y m)
+
+  slacks-end : {slacks : List ℤ} {worst : ℤ} → Held N (size N - 1) slacks worst → (y : ℕ) → 1 ≤ y → y ≤ size N → getD slacks y (pos 0) ≡ slack N (planBy lowest N) y
+  slacks-end H y y1 yN =
+      let m : count y (inserted N (size N - 1)) ≢ 0 = omega (arith, all-in y, range-count (size N) y, down-once 0 (size N) y y1 (omega arith)) in
+      H .slacks-are y m ∙ slack-end y y1 yN m
+
+  worst-end : {slacks : List ℤ} {worst : ℤ} → Held N (size N - 1) slacks worst → worst ≡ worstSlack N (planBy lowest N)
   worst-end {slacks} {worst} H =
       least-one (range 1 (size N)) (slack N (planBy lowest N)) worst (worstSlack N (planBy lowest N))
       (least-same (slackAfter N (size N - 1)) (slack N (planBy lowest N)) (inserted N (size N - 1)) (range 1 (size N)) worst all-in same (H .worst-is))
@@ -339,7 +348,7 @@ module _ (N : Net) (c1 : 0 < N .branch) (n1 : 1 ≤ size N) where
       same : (y : ℕ) → count y (range 1 (size N)) ≢ 0 → slackAfter N (size N - 1) y ≡ slack N (planBy lowest N) y
       same y m =
           let h : (1 ≤ y) × (y ≤ size N) = sinks-in N c1 n1 y m in
-          sym (settling N (planParents lowest N) (plan-legal N c1 n1 lowest .shape) y (h .0) (h .1) ∙ slack-is N c1 (size N - 1) (omega arith) y (omega (arith, all-in y)))
+          slack-end y (h .0) (h .1) (omega (arith, all-in y))
 
 -- ---- the arrays of a net
 
@@ -386,10 +395,16 @@ module _ {N : Net} {h : Header} {n : ℕ} {own : List ℤ} {sinks : List ℕ} (R
             (slack-within N (R .in-range) k (parentsAfter lowest N k) u (omega (arith, R .size-is)) u1 (omega (arith, R .size-is)) .0)
 
     -- the end: all are in
+    held-end : n ≡ suc k → Held N (size N - 1) slacks worst
+    held-end e = subst (λ (j : ℕ). Held N j slacks worst) (omega (arith, R .size-is)) (held (omega arith))
+
+    pub inserted-slacks : n ≡ suc k → (s : ℕ) → 1 ≤ s → s ≤ n → getD slacks s (pos 0) ≡ slack N (planBy lowest N) s
+    inserted-slacks e s s1 sn = slacks-end N branch-pos (R .in-range .sinks .0) (held-end e) s s1 (omega (arith, R .size-is))
+
     pub insert-end : n ≡ suc k → (parentsOf n ps ≡ planParents lowest N) × (worst ≡ worstSlack N (planBy lowest N))
     insert-end e =
         let q : k ≡ size N - 1 = omega (arith, R .size-is) in
-        (ap (λ (m : ℕ). parentsOf m ps) (sym (R .size-is)) ∙ I .parents-are ∙ ap (parentsAfter lowest N) q, worst-end N branch-pos (R .in-range .sinks .0) (subst (λ (j : ℕ). Held N j slacks worst) q (held (omega arith))))
+        (ap (λ (m : ℕ). parentsOf m ps) (sym (R .size-is)) ∙ I .parents-are ∙ ap (parentsAfter lowest N) q, worst-end N branch-pos (R .in-range .sinks .0) (held-end e))
 
     -- the sink whose edge is split, as the program finds it
     module _ (kn : suc k < n) {v : ℕ} (v-is : FirstLargest (score worst (h .branch .0) slacks) n v) where

@@ -24,6 +24,8 @@ use Rattle.tree.specs.Tree.{Tree, parent, place}
 use Rattle.tree.specs.Measures.{pathUp, path, edgeLength, edgeDelay, pathDelay, oneIf, depth, slack, worstOver, worstSlack, wireLength}
 use Rattle.tree.specs.Limits.{positionLimit, branchLimit, wireFactorLimit, sinkLimit, requiredLimit}
 use Rattle.tree.specs.Arrays.{pointAt, lengthAbove, netOf, treeOf, HoldsNet, HoldsTree}
+use Rattle.tree.specs.Tallies.{slackAt, leastSlack, edgeSum}
+use Rattle.tree.proofs.Laws.Tables.{table-cong}
 use Rattle.tree.proofs.Laws.Arrays.{parents-length, parents-at, size-is, required-at, place-at}
 
 -- ---- ranges
@@ -125,9 +127,6 @@ module _ (n : ℕ) (ps : List ℕ) (xs ys : List ℤ) (held : HoldsTree n ps xs 
 
   pub length-limit : (v : ℕ) → 1 ≤ v → v < 2 * n → lengthAbove ps xs ys v ≤ lengthLimit
   length-limit v g l = distance-limit (pointAt xs ys (getD ps v 0)) (pointAt xs ys v) (near (getD ps v 0) (parent-inside v g l)) (near v l)
-
-  pub edge-length-limit : (h : Header) (rs : List ℤ) (v : ℕ) → 1 ≤ v → v < 2 * n → edgeLength (netOf h n xs ys rs) (treeOf n ps xs ys) v ≤ lengthLimit
-  edge-length-limit h rs v g l = omega (arith, edge-length-is h rs v g l, length-limit v g l)
 
   edge-delay-is : (h : Header) (rs : List ℤ) (d v : ℕ) → h .wire .0 ≡ d → 1 ≤ v → v < 2 * n
       → edgeDelay (netOf h n xs ys rs) (treeOf n ps xs ys) v ≡ delayAbove d ps xs ys v
@@ -284,43 +283,24 @@ least-more f k =
     let e : 2 + k ≡ suc (suc k) = omega arith in
     leastFrom-more f (f 1) 2 k ∙ ap (λ i. minℤ (leastFrom (f 1) (map f (range 2 k))) (f i)) e
 
--- ---- the wire of the vertices 1 to v - 1
+-- ---- the edges and the slacks that arrays hold, and those of the net and the tree
 
-pub record Wired (n : ℕ) (ps : List ℕ) (xs ys : List ℤ) (v wire : ℕ) : Type 0 where
-  pub begun : 1 ≤ v
-  pub inside : v ≤ 2 * n
-  pub wire-is : wire ≡ sumOver (range 1 (v - 1)) (lengthAbove ps xs ys)
+sum-same : {f g : ℕ → ℕ} (a k : ℕ) → ((i : ℕ) → a ≤ i → i < a + k → f i ≡ g i) → sumOver (range a k) f ≡ sumOver (range a k) g
+sum-same a zero s = refl
+sum-same a (suc k) s = ap₂ _+_ (s a (omega arith) (omega arith)) (sum-same (suc a) k (λ i p q. s i (omega arith) (omega arith)))
 
-pub wire-begins : (n : ℕ) (ps : List ℕ) (xs ys : List ℤ) (wire : ℕ) → 1 ≤ n → wire ≡ 0 → Wired n ps xs ys 1 wire
-wire-begins n ps xs ys wire l e = record { begun = omega arith; inside = omega arith; wire-is = e }
+pub wire-is : (n : ℕ) (ps : List ℕ) (xs ys : List ℤ) → HoldsTree n ps xs ys → (h : Header) (rs : List ℤ) → edgeSum n ps xs ys ≡ wireLength (netOf h n xs ys rs) (treeOf n ps xs ys)
+unfolding wireLength
+wire-is n ps xs ys held h rs =
+    let N : Net = netOf h n xs ys rs in
+    let T : Tree = treeOf n ps xs ys in
+    let e : 2 * n - 1 ≡ 2 * size N - 1 = omega (arith, size-is h n xs ys rs) in
+    sum-same 1 (2 * n - 1) (λ i a b. sym (edge-length-is n ps xs ys held h rs i a (omega arith))) ∙ ap (λ j. sumOver (range 1 j) (edgeLength N T)) e
 
-module _ (n : ℕ) (ps : List ℕ) (xs ys : List ℤ) (held : HoldsTree n ps xs ys) (v wire : ℕ) (w : Wired n ps xs ys v wire) where
-  pub wire-steps : (k : ℕ) → v < 2 * n → k ≡ wire + lengthAbove ps xs ys v → Wired n ps xs ys (v + 1) k
-  wire-steps k l e =
-      let f : ℕ → ℕ = lengthAbove ps xs ys in
-      let p : suc (v - 1) ≡ v + 1 - 1 = omega (arith, w .begun) in
-      let q : 1 + (v - 1) ≡ v = omega (arith, w .begun) in
-      record {
-        begun = omega arith;
-        inside = omega arith;
-        wire-is = omega (arith, w .wire-is, sum-more f 1 (v - 1), ap f q, ap (λ j. sumOver (range 1 j) f) p);
-      }
-
-  pub wire-small : wire ≤ lengthReach
-  wire-small =
-      omega (arith, held .parents-in .few, w .wire-is, w .inside, sum-bound (lengthAbove ps xs ys) lengthLimit 1 (v - 1) (λ i a b. length-limit n ps xs ys held i a (omega (arith, w .begun, w .inside))))
-
-  pub wire-ends : 2 * n ≤ v → (h : Header) (rs : List ℤ) → wire ≡ wireLength (netOf h n xs ys rs) (treeOf n ps xs ys)
-  unfolding wireLength
-  wire-ends l h rs =
-      let N : Net = netOf h n xs ys rs in
-      let T : Tree = treeOf n ps xs ys in
-      let e : v - 1 ≡ 2 * size N - 1 = omega (arith, w .inside, size-is h n xs ys rs) in
-      w .wire-is ∙ sum-same 1 (v - 1) (λ i a b. sym (edge-length-is n ps xs ys held h rs i a (omega (arith, w .inside)))) ∙ ap (λ j. sumOver (range 1 j) (edgeLength N T)) e
-    where
-      sum-same : {f g : ℕ → ℕ} (a k : ℕ) → ((i : ℕ) → a ≤ i → i < a + k → f i ≡ g i) → sumOver (range a k) f ≡ sumOver (range a k) g
-      sum-same a zero s = refl
-      sum-same a (suc k) s = ap₂ _+_ (s a (omega arith) (omega arith)) (sum-same (suc a) k (λ i p q. s i (omega arith) (omega arith)))
+pub worst-is : (N : Net) (T : Tree) (n : ℕ) (slacks : List ℤ) → size N ≡ n → ((s : ℕ) → 1 ≤ s → s ≤ n → slackAt slacks s ≡ slack N T s) → leastSlack n slacks ≡ worstSlack N T
+unfolding worstSlack
+worst-is N T n slacks e each =
+    ap least (table-cong (slackAt slacks) (slack N T) 1 n (λ s p q. each s p (omega arith))) ∙ ap (λ k. worstOver N T (range 1 k)) (sym e)
 
 -- ---- a tally is its two numbers
 
@@ -332,58 +312,57 @@ tally-same t u d e = ap₂ made d e
 
 -- ---- the vertices 1 to v - 1 are tallied: the worst slack of the sinks among them, and the wire
 
-pub record Tallied (N : Net) (T : Tree) (n v : ℕ) (worst : ℤ) (wire : ℕ) : Type 0 where
+pub record Tallied (f : ℕ → ℤ) (g : ℕ → ℕ) (n v : ℕ) (worst : ℤ) (wire : ℕ) : Type 0 where
   pub begun : 2 ≤ v
   pub inside : v ≤ 2 * n
-  pub worst-is : worst ≡ worstOver N T (range 1 (min (v - 1) n))
-  pub wire-is : wire ≡ sumOver (range 1 (v - 1)) (edgeLength N T)
+  pub worst-so-far : worst ≡ least (map f (range 1 (min (v - 1) n)))
+  pub wire-so-far : wire ≡ sumOver (range 1 (v - 1)) g
 
-module _ (N : Net) (T : Tree) (n : ℕ) where
-  pub tally-begins : (worst : ℤ) (wire : ℕ) → 1 ≤ n → worst ≡ slack N T 1 → wire ≡ edgeLength N T 1 → Tallied N T n 2 worst wire
+module _ (f : ℕ → ℤ) (g : ℕ → ℕ) (n : ℕ) where
+  pub tally-begins : (worst : ℤ) (wire : ℕ) → 1 ≤ n → worst ≡ f 1 → wire ≡ g 1 → Tallied f g n 2 worst wire
   tally-begins worst wire l d e =
       let m : 1 ≡ min 1 n = omega arith in
       record {
         begun = omega arith;
         inside = omega arith;
-        worst-is = d ∙ ap (λ k. worstOver N T (range 1 k)) m;
-        wire-is = omega arith;
+        worst-so-far = d ∙ ap (λ k. least (map f (range 1 k))) m;
+        wire-so-far = omega arith;
       }
 
-  module _ (v : ℕ) (worst : ℤ) (wire : ℕ) (t : Tallied N T n v worst wire) where
-    pub tally-steps : (z : ℤ) (k : ℕ) → v < 2 * n → z ≡ cond (ltb n v) worst (minℤ worst (slack N T v)) → k ≡ wire + edgeLength N T v → Tallied N T n (v + 1) z k
+  module _ (v : ℕ) (worst : ℤ) (wire : ℕ) (t : Tallied f g n v worst wire) where
+    pub tally-steps : (z : ℤ) (k : ℕ) → v < 2 * n → z ≡ cond (ltb n v) worst (minℤ worst (f v)) → k ≡ wire + g v → Tallied f g n (v + 1) z k
     tally-steps z k l d e = record {
       begun = omega (arith, t .begun);
       inside = omega arith;
-      worst-is = d ∙ go (ltb n v) refl;
-      wire-is = sums;
+      worst-so-far = d ∙ go (ltb n v) refl;
+      wire-so-far = sums;
     }
       where
-        go : (b : Bool) → ltb n v ≡ b → cond b worst (minℤ worst (slack N T v)) ≡ worstOver N T (range 1 (min (v + 1 - 1) n))
+        go : (b : Bool) → ltb n v ≡ b → cond b worst (minℤ worst (f v)) ≡ least (map f (range 1 (min (v + 1 - 1) n)))
         go true q =
             let m : min (v - 1) n ≡ min (v + 1 - 1) n = omega (arith, ltb-true n v q) in
-            t .worst-is ∙ ap (λ j. worstOver N T (range 1 j)) m
+            t .worst-so-far ∙ ap (λ j. least (map f (range 1 j))) m
         go false q =
             let j : ℕ = v - 2 in
             let m : min (v - 1) n ≡ suc j = omega (arith, ltb-false n v q, t .begun) in
             let o : suc (suc j) ≡ min (v + 1 - 1) n = omega (arith, ltb-false n v q, t .begun) in
             let p : v ≡ suc (suc j) = omega (arith, t .begun) in
-            ap₂ minℤ (t .worst-is ∙ ap (λ i. worstOver N T (range 1 i)) m) (ap (slack N T) p)
-            ∙ sym (least-more (slack N T) j)
-            ∙ ap (λ i. worstOver N T (range 1 i)) o
+            ap₂ minℤ (t .worst-so-far ∙ ap (λ i. least (map f (range 1 i))) m) (ap f p)
+            ∙ sym (least-more f j)
+            ∙ ap (λ i. least (map f (range 1 i))) o
 
-        sums : k ≡ sumOver (range 1 (v + 1 - 1)) (edgeLength N T)
+        sums : k ≡ sumOver (range 1 (v + 1 - 1)) g
         sums =
             let p : suc (v - 1) ≡ v + 1 - 1 = omega (arith, t .begun) in
             let q : 1 + (v - 1) ≡ v = omega (arith, t .begun) in
-            omega (arith, t .wire-is, sum-more (edgeLength N T) 1 (v - 1), ap (edgeLength N T) q, ap (λ j. sumOver (range 1 j) (edgeLength N T)) p)
+            omega (arith, t .wire-so-far, sum-more g 1 (v - 1), ap g q, ap (λ j. sumOver (range 1 j) g) p)
 
-    pub tally-small : n ≤ sinkLimit → ((i : ℕ) → 1 ≤ i → i < 2 * n → edgeLength N T i ≤ lengthLimit) → wire ≤ lengthReach
+    pub tally-small : n ≤ sinkLimit → ((i : ℕ) → 1 ≤ i → i < 2 * n → g i ≤ lengthLimit) → wire ≤ lengthReach
     tally-small l s =
-        omega (arith, t .wire-is, t .begun, t .inside, sum-bound (edgeLength N T) lengthLimit 1 (v - 1) (λ i a b. s i a (omega (arith, t .begun, t .inside))))
+        omega (arith, t .wire-so-far, t .begun, t .inside, sum-bound g lengthLimit 1 (v - 1) (λ i a b. s i a (omega (arith, t .begun, t .inside))))
 
-    pub tally-ends : size N ≡ n → 1 ≤ n → 2 * n ≤ v → (worst ≡ worstSlack N T) × (wire ≡ wireLength N T)
-    unfolding worstSlack wireLength
-    tally-ends e l m =
-        let p : min (v - 1) n ≡ size N = omega arith in
-        let q : v - 1 ≡ 2 * size N - 1 = omega (arith, t .inside) in
-        (t .worst-is ∙ ap (λ i. worstOver N T (range 1 i)) p, t .wire-is ∙ ap (λ i. sumOver (range 1 i) (edgeLength N T)) q)
+    pub tally-ends : 1 ≤ n → 2 * n ≤ v → (worst ≡ least (map f (range 1 n))) × (wire ≡ sumOver (range 1 (2 * n - 1)) g)
+    tally-ends l m =
+        let p : min (v - 1) n ≡ n = omega arith in
+        let q : v - 1 ≡ 2 * n - 1 = omega (arith, t .inside) in
+        (t .worst-so-far ∙ ap (λ i. least (map f (range 1 i))) p, t .wire-so-far ∙ ap (λ i. sumOver (range 1 i) g) q)

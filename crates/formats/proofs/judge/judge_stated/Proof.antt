@@ -11,21 +11,21 @@ use Rattle.formats.proofs.judge.judge_stated.Statement.{statement}
 use Rattle.formats.proofs.judge.judge_stated.Tie as tie
 
 -- the net and the listing that are judged
-abbrev net : tie.After-measure → Net
-net c = let a = c .before .before .before .before .args in netOf (a .header) (a .n) (a .xs .now) (a .ys .now) (a .required .now)
+abbrev net : tie.After-measure-tree → Net
+net c = let a = c .before .before .before .before .before .args in netOf (a .header) (a .n) (a .xs .now) (a .ys .now) (a .required .now)
 
-abbrev listing : tie.After-measure → Listing
-listing c = let a = c .before .before .before .before .args in record { slack = a .slack .0; wire = a .wire .0; tree = treeOf (a .n) (a .parents .now) (a .xs .now) (a .ys .now) }
+abbrev listing : tie.After-measure-tree → Listing
+listing c = let a = c .before .before .before .before .before .args in record { slack = a .slack .0; wire = a .wire .0; tree = treeOf (a .n) (a .parents .now) (a .xs .now) (a .ys .now) }
 
 -- the stated slack is the measured one
-low : (c : tie.Else2) → ltZ (listing (c .before .before .before .before .before .before) .slack) (c .before .before .before .before .before .before .measure .result .worst .0) ≡ false
+low : (c : tie.Else2) → ltZ (listing (c .before .before .before .before .before .before .before) .slack) (c .before .before .before .before .before .before .before .measure-tree .result .worst .0) ≡ false
 low c = sym (c .before .before .before .is-less .ensures) ∙ c .before .before .if1 .left
 
-high : (c : tie.Else2) → ltZ (c .before .before .before .before .before .before .measure .result .worst .0) (listing (c .before .before .before .before .before .before) .slack) ≡ false
+high : (c : tie.Else2) → ltZ (c .before .before .before .before .before .before .before .measure-tree .result .worst .0) (listing (c .before .before .before .before .before .before .before) .slack) ≡ false
 high c = sym (c .before .is-less2 .ensures) ∙ c .if2 .left
 
-measure-requires : tie.Need-measure-requires
-measure-requires c κs = search needs
+measure-tree-requires : tie.Need-measure-tree-requires
+measure-tree-requires c κs = search needs
 
 is-less-requires : tie.Need-is-less-requires
 is-less-requires c κs = search needs
@@ -33,21 +33,27 @@ is-less-requires c κs = search needs
 same-length : tie.Need-same-length
 same-length c = search needs
 
+same-length-2 : tie.Need-same-length-2
+same-length-2 c = search needs
+
 returns : tie.Need-returns
 returns c =
-    let m = c .before .before .before .before in
-    slack-less (net m) (listing m) (m .measure .result .worst .0) (m .measure .result .wire .0) (m .measure .ensures .0) (m .measure .ensures .1) (sym (c .before .is-less .ensures) ∙ c .if1 .taken)
+    let m = c .before .before .before .before .before in
+    slack-less (net m) (listing m) (m .measure-tree .result .worst .0) (m .measure-tree .result .wire .0) (m .measure-tree .ensures .0) (m .measure-tree .ensures .1) (sym (c .before .is-less .ensures) ∙ c .if1 .taken)
 
 is-less-requires-2 : tie.Need-is-less-requires-2
 is-less-requires-2 c κs = search needs
 
-same-length-2 : tie.Need-same-length-2
-same-length-2 c = search needs
+same-length-3 : tie.Need-same-length-3
+same-length-3 c = search needs
+
+same-length-4 : tie.Need-same-length-4
+same-length-4 c = search needs
 
 returns-2 : tie.Need-returns-2
 returns-2 c =
-    let m = c .before .before .before .before .before .before in
-    slack-more (net m) (listing m) (m .measure .result .worst .0) (m .measure .result .wire .0) (m .measure .ensures .0) (m .measure .ensures .1) (sym (c .before .is-less2 .ensures) ∙ c .if2 .taken)
+    let m = c .before .before .before .before .before .before .before in
+    slack-more (net m) (listing m) (m .measure-tree .result .worst .0) (m .measure-tree .result .wire .0) (m .measure-tree .ensures .0) (m .measure-tree .ensures .1) (sym (c .before .is-less2 .ensures) ∙ c .if2 .taken)
 
 value-requires : tie.Need-value-requires
 value-requires c κs = search needs
@@ -55,59 +61,65 @@ value-requires c κs = search needs
 value-requires-2 : tie.Need-value-requires-2
 value-requires-2 c κs = search needs
 
-same-length-3 : tie.Need-same-length-3
-same-length-3 c = search needs
-
-returns-3 : tie.Need-returns-3
-returns-3 c =
-    let m = c .before .before .before .before .before .before .before .before .before in
-    let d = c .before .before .before in
-    wire-other (net m) (listing m) (m .measure .result .worst .0) (m .measure .result .wire .0) (m .measure .ensures .0) (m .measure .ensures .1) (low d) (high d) (λ e. c .if3 .taken (c .before .before .value .ensures ∙ e ∙ sym (c .before .value2 .ensures)))
-
-kraft-maximum-requires : tie.Need-kraft-maximum-requires
-kraft-maximum-requires c κs =
-    let s = c .before .before .before .before .before .before .before .before .before .before .before .before .before .before .before .before .before in
-    (s .pre .0 .0, omega (arith, s .pre .0 .1 .parents-in .long, s .pre .1))
-
-same-length-4 : tie.Need-same-length-4
-same-length-4 c = search needs
-
 same-length-5 : tie.Need-same-length-5
 same-length-5 c = search needs
 
 same-length-6 : tie.Need-same-length-6
 same-length-6 c = search needs
 
+returns-3 : tie.Need-returns-3
+returns-3 c =
+    let m = c .before .before .before .before .before .before .before .before .before .before in
+    let d = c .before .before .before in
+    wire-other (net m) (listing m) (m .measure-tree .result .worst .0) (m .measure-tree .result .wire .0) (m .measure-tree .ensures .0) (m .measure-tree .ensures .1) (low d) (high d) (λ e. c .if3 .taken (c .before .before .value .ensures ∙ e ∙ sym (c .before .value2 .ensures)))
+
+kraft-maximum-requires : tie.Need-kraft-maximum-requires
+kraft-maximum-requires c κs =
+    let s = c .before .before .before .before .before .before .before .before .before .before .before .before .before .before .before .before .before .before .before in
+    (s .pre .0 .0, omega (arith, s .pre .0 .1 .parents-in .long, s .pre .1, c .before .before .before .before .before .before .before .before .before .before .before .before .before .before .measure-tree .kept))
+
 same-length-7 : tie.Need-same-length-7
 same-length-7 c = search needs
 
+same-length-8 : tie.Need-same-length-8
+same-length-8 c = search needs
+
+same-length-9 : tie.Need-same-length-9
+same-length-9 c = search needs
+
+same-length-10 : tie.Need-same-length-10
+same-length-10 c = search needs
+
 returns-4 : tie.Need-returns-4
 returns-4 c =
-    let m = c .before .before .before .before .before .before .before .before .before .before .before .before .before .before .before .before .before .before .before .before in
-    let held = m .before .before .before .before .pre .0 .0 in
+    let m = c .before .before .before .before .before .before .before .before .before .before .before .before .before .before .before .before .before .before .before .before .before in
+    let held = m .before .before .before .before .before .pre .0 .0 in
     let d = c .before .before .before .before .before .before .before .before .before .before .before .before .before .before in
     let best = c .before .before .before .before .before .before .kraft-maximum in
-    accepted (net m) (listing m) (m .measure .result .worst .0) (m .measure .result .wire .0) (m .measure .ensures .0) (m .measure .ensures .1) (low d) (high d)
+    accepted (net m) (listing m) (m .measure-tree .result .worst .0) (m .measure-tree .result .wire .0) (m .measure-tree .ensures .0) (m .measure-tree .ensures .1) (low d) (high d)
     (sym (c .before .before .before .before .before .before .before .before .before .before .before .before .before .value .ensures) ∙ c .before .before .before .before .before .before .before .before .before .before .before .if3 .left ∙ c .before .before .before .before .before .before .before .before .before .before .before .before .value2 .ensures) (held .in-range .branch .0) (held .in-range .sinks .0) (best .result .0) (best .ensures)
 
 pub judge-stated-spec : {M : Type 1} → statement M
 judge-stated-spec =
     tie.close
     (tie.spec
-    measure-requires
+    measure-tree-requires
     is-less-requires
     same-length
+    same-length-2
     returns
     is-less-requires-2
-    same-length-2
+    same-length-3
+    same-length-4
     returns-2
     value-requires
     value-requires-2
-    same-length-3
-    returns-3
-    kraft-maximum-requires
-    same-length-4
     same-length-5
     same-length-6
+    returns-3
+    kraft-maximum-requires
     same-length-7
+    same-length-8
+    same-length-9
+    same-length-10
     returns-4)

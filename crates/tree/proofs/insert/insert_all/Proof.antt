@@ -10,7 +10,7 @@ use mir.Facts.{toZ-ofZ}
 use Rattle.quantities.specs.Linear.{fit, rd}
 use Rattle.tree.specs.Net.{Net}
 use Rattle.tree.specs.Insertion.{Ready, Inserted}
-use Rattle.tree.proofs.Laws.Inserting.{some-sink, sink-in, insert-first, insert-end}
+use Rattle.tree.proofs.Laws.Inserting.{some-sink, sink-in, insert-first, inserted-slacks, insert-end}
 use Rattle.tree.proofs.insert.insert_all.Statement.{statement}
 use Rattle.tree.proofs.insert.insert_all.Tie as tie
 
@@ -125,7 +125,7 @@ returns : tie.Need-returns Inv-loop μ-loop
 returns c =
     let l = c .before .loop in
     let done : c .before .before .before .before .before .before .before .before .before .before .before .before .before .before .before .args .n ≡ suc (l .k) = omega arith in
-    ((λ N R. insert-end R (l .inv .3 N R) done .0), λ N R. insert-end R (l .inv .3 N R) done .1)
+    ((λ N R. insert-end R (l .inv .3 N R) done .0), ((λ N R. insert-end R (l .inv .3 N R) done .1), λ N R s s1 sn. inserted-slacks R (l .inv .3 N R) done s s1 sn))
 
 pub insert-all-spec : {M : Type 1} → statement M
 insert-all-spec =

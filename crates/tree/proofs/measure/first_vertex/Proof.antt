@@ -1,25 +1,27 @@
-use native.Mathlib.Omega.{arith}
-use mathlib.Core.Path.{sym, _∙_}
-use Rattle.tree.proofs.Laws.Measuring.{edge-length-is, tally-same}
+use mathlib.Core.Path.{_∙_}
+use borrow.Author.Needs.{needs}
+use lib.ListN.{getD}
+use lib.IntN.{pos}
+use mir.Facts.{toZ-ofZ}
+use Rattle.quantities.specs.Linear.{fit}
+use Rattle.tree.proofs.Laws.Measuring.{tally-same}
 use Rattle.tree.proofs.measure.first_vertex.Statement.{statement}
 use Rattle.tree.proofs.measure.first_vertex.Tie as tie
 
-sink-slack-requires : tie.Need-sink-slack-requires
-sink-slack-requires c κs =
-    let t = c .before .pre in
-    (t .0, t .1, omega arith, t .1 .parents-in .some)
+shared-slice-copy-out-of : tie.Need-shared-slice-copy-out-of
+shared-slice-copy-out-of c = search needs
+
+of-requires : tie.Need-of-requires
+of-requires c κs = search needs
 
 edge-length-requires : tie.Need-edge-length-requires
-edge-length-requires c κs =
-    let t = c .before .before .pre in
-    (t .1, omega arith, omega (arith, t .1 .parents-in .some))
+edge-length-requires c κs = search needs
 
 returns : tie.Need-returns
 returns c =
-    let a = c .before .before .before .args in
-    let t = c .before .before .before .pre in
-    tally-same _ _ (c .before .sink-slack .ensures)
-    (c .edge-length .ensures ∙ sym (edge-length-is (a .n) (a .parents .now) (a .xs .now) (a .ys .now) (t .1) (a .h) (a .required .now) 1 (omega arith) (omega (arith, t .1 .parents-in .some))))
+    let a = c .before .before .before .before .args in
+    tally-same _ _ (c .before .of .ensures ∙ toZ-ofZ (fit (getD (a .slacks .now) 1 (pos 0)) (c .before .before .of-arg .given))) (c .edge-length .ensures)
 
 pub first-vertex-spec : {M : Type 1} → statement M
-first-vertex-spec = tie.close (tie.spec sink-slack-requires edge-length-requires returns)
+first-vertex-spec =
+    tie.close (tie.spec shared-slice-copy-out-of of-requires edge-length-requires returns)

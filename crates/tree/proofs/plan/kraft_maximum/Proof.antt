@@ -70,7 +70,7 @@ returns c =
     let held = c .before .before .before .before .before .before .before .before .before .before .before .before .before .before .before .before .before .before .pre .0 in
     subst
     (IsKraftMaximum (net d .branch) (ownSlacks (net d)))
-    (sym (c .before .before .before .insert-all .ensures .1 (net d) (ready-now d)))
+    (sym (c .before .before .before .insert-all .ensures .1 .0 (net d) (ready-now d)))
     (plan-maximum (net d) (held .in-range .branch .0) (held .in-range .sinks .0) lowest)
 
 pub kraft-maximum-spec : {M : Type 1} → statement M

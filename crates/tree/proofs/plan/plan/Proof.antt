@@ -1,5 +1,5 @@
 use Prim.Native.Nat.{ℕ, _*_, _≤_, _<_}
-use mathlib.Core.Path.{_≡_}
+use mathlib.Core.Path.{_≡_, _∙_}
 use mathlib.Core.List.{List}
 use native.Mathlib.Omega.{arith}
 use borrow.Author.Needs.{needs}
@@ -7,10 +7,11 @@ use lib.ListN.{length}
 use lib.IntN.{ℤ}
 use Rattle.tree.specs.Net.{Net}
 use Rattle.tree.specs.Planning.{lowest, planParents}
-use Rattle.tree.specs.Settling.{plan}
+use Rattle.tree.specs.Settling.{planBy, plan}
 use Rattle.tree.specs.Arrays.{netOf, parentsOf, HoldsTree}
 use Rattle.tree.specs.Insertion.{Ready}
 use Rattle.tree.proofs.Laws.Arrays.{size-is}
+use Rattle.tree.proofs.Laws.Measuring.{worst-is, wire-is}
 use Rattle.tree.proofs.Laws.PlanArrays.{some-few, ready, planned-legal, planned-parents, planned-down, planned-tree, planned-holds, planned-wire}
 use Rattle.tree.proofs.plan.plan.Statement.{statement}
 use Rattle.tree.proofs.plan.plan.Tie as tie
@@ -79,16 +80,16 @@ settle-requires c κs =
     )
 
 -- the tree is settled
-holds : (c : tie.After-wire-length-arg3) → HoldsTree (c .before .before .before .before .before .before .before .before .before .before .before .before .before .before .before .before .before .before .before .before .before .before .before .before .before .before .before .before .before .before .before .before .args .n) (parents (c .before .before .before .before .before .before .before .before)) (c .before .before .before .before .before .before .before .settle .last .1 .1 .0) (c .before .before .before .before .before .before .before .settle .last .1 .1 .1 .0)
+holds : (c : tie.After-measure-arg4) → HoldsTree (c .before .before .before .before .before .before .before .before .before .before .before .before .before .before .before .before .before .before .before .before .before .before .before .before .before .before .before .before .before .before .before .before .before .args .n) (parents (c .before .before .before .before .before .before .before .before .before)) (c .before .before .before .before .before .before .before .before .settle .last .1 .1 .0) (c .before .before .before .before .before .before .before .before .settle .last .1 .1 .1 .0)
 holds c =
-    let s = c .before .before .before .before .before .before .before .before .before .before .before .before .before .before .before .before .before .before .before .before .before .before .before .before .before .before .before .before .before .before .before .before in
+    let s = c .before .before .before .before .before .before .before .before .before .before .before .before .before .before .before .before .before .before .before .before .before .before .before .before .before .before .before .before .before .before .before .before .before in
     let a = s .args in
-    let d = c .before .before .before .before .before .before .before .before in
-    let settle = c .before .before .before .before .before .before .before .settle in
+    let d = c .before .before .before .before .before .before .before .before .before in
+    let settle = c .before .before .before .before .before .before .before .before .settle in
     planned-holds (a .h) (a .n) (a .xs .now) (a .ys .now) (a .required .now) (s .pre .0) (parents d) (parents-long d) (planned d) (settle .last .1 .1 .0) (settle .last .1 .1 .1 .0) (omega (arith, settle .kept)) (omega (arith, settle .kept)) (settle .ensures .0 (a .h) (a .required .now)) (settle .ensures .1)
 
-wire-length-requires : tie.Need-wire-length-requires
-wire-length-requires c κs = holds c
+measure-requires : tie.Need-measure-requires
+measure-requires c κs = (holds c, omega (arith, c .before .before .before .before .before .before .before .before .before .before .before .before .before .before .before .before .insert-all .kept, c .before .before .before .before .before .before .before .before .before .before .before .before .before .before .before .before .before .before .before .before .before .before .before .before .before .before .before .before .before .before .before .before .before .pre .1))
 
 same-length : tie.Need-same-length
 same-length c = search needs
@@ -100,7 +101,7 @@ same-length-3 : tie.Need-same-length-3
 same-length-3 c = search needs
 
 same-length-4 : tie.Need-same-length-4
-same-length-4 c = search needs
+same-length-4 c = c .before .before .before .before .before .before .before .before .before .before .before .before .before .before .before .before .before .before .before .before .before .before .before .before .before .before .before .before .own-slacks .kept .1 .1 .1 .1 .1 .0
 
 same-length-5 : tie.Need-same-length-5
 same-length-5 c = search needs
@@ -111,17 +112,22 @@ same-length-6 c = search needs
 returns : tie.Need-returns
 unfolding plan
 returns c =
-    let s = c .before .before .before .before .before .before .before .before .before .before .before .before .before .before .before .before .before .before .before .before .before .before .before .before .before .before .before .before .before .before .before .before .before in
+    let s = c .before .before .before .before .before .before .before .before .before .before .before .before .before .before .before .before .before .before .before .before .before .before .before .before .before .before .before .before .before .before .before .before .before .before in
     let a = s .args in
-    let d = c .before .before .before .before .before .before .before .before .before in
-    let settle = c .before .before .before .before .before .before .before .before .settle in
-    let tree = settle .ensures .0 (a .h) (a .required .now) in (
-      planned-tree (a .h) (a .n) (a .xs .now) (a .ys .now) (a .required .now) (s .pre .0) (parents d) (parents-long d) (planned d) (settle .last .1 .1 .0) (settle .last .1 .1 .1 .0) (omega (arith, settle .kept)) (omega (arith, settle .kept)) tree (settle .ensures .1),
+    let d = c .before .before .before .before .before .before .before .before .before .before in
+    let N = net (c .before .before .before .before .before .before .before .before .before .before .before .before .before .before .before .before .before .before) in
+    let settle = c .before .before .before .before .before .before .before .before .before .settle in
+    let xs = settle .last .1 .1 .0 in
+    let ys = settle .last .1 .1 .1 .0 in
+    let tree = settle .ensures .0 (a .h) (a .required .now) in
+    let e = c .measure .ensures in (
+      planned-tree (a .h) (a .n) (a .xs .now) (a .ys .now) (a .required .now) (s .pre .0) (parents d) (parents-long d) (planned d) xs ys (omega (arith, settle .kept)) (omega (arith, settle .kept)) tree (settle .ensures .1),
       (
         settle .ensures .1,
         (
-          c .before .before .before .before .before .before .before .before .before .before .before .before .before .before .before .before .insert-all .ensures .1 (net (c .before .before .before .before .before .before .before .before .before .before .before .before .before .before .before .before .before)) (ready-now (c .before .before .before .before .before .before .before .before .before .before .before .before .before .before .before .before .before)),
-          planned-wire (a .h) (a .n) (a .xs .now) (a .ys .now) (a .required .now) (s .pre .0) (parents d) (parents-long d) (planned d) (settle .last .1 .1 .0) (settle .last .1 .1 .1 .0) (omega (arith, settle .kept)) (omega (arith, settle .kept)) tree (settle .ensures .1) _ (c .wire-length .ensures (a .h) (a .required .now)),
+          e .0 ∙ worst-is N (planBy lowest N) (a .n) (c .before .before .before .before .before .before .before .before .before .before .before .before .before .before .before .before .before .insert-all .last .1 .1 .1 .1 .0) (size-is (a .h) (a .n) (a .xs .now) (a .ys .now) (a .required .now)) (c .before .before .before .before .before .before .before .before .before .before .before .before .before .before .before .before .before .insert-all .ensures .1 .1 N (ready-now (c .before .before .before .before .before .before .before .before .before .before .before .before .before .before .before .before .before .before))),
+          planned-wire (a .h) (a .n) (a .xs .now) (a .ys .now) (a .required .now) (s .pre .0) (parents d) (parents-long d) (planned d) xs ys (omega (arith, settle .kept)) (omega (arith, settle .kept)) tree (settle .ensures .1) _
+              (e .1 ∙ wire-is (a .n) (parents d) xs ys (holds (c .before)) (a .h) (a .required .now)),
         ),
       ),
     )
@@ -134,7 +140,7 @@ plan-spec =
     order-sinks-requires
     insert-all-requires
     settle-requires
-    wire-length-requires
+    measure-requires
     same-length
     same-length-2
     same-length-3
