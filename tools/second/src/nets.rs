@@ -138,6 +138,14 @@ pub fn spare(r: &mut Random, n: usize) -> Net {
     with_own_slacks(r, branch, own)
 }
 
+/// Own slacks that fall as the numbers rise, all within one branch cost: the
+/// order turns the sinks round, and few edges keep the worst slack.
+pub fn falling(r: &mut Random, n: usize) -> Net {
+    let branch = r.between(n as i64, 100 * n as i64);
+    let own = (0..n as i64).rev().collect();
+    with_own_slacks(r, branch, own)
+}
+
 fn with_own_slacks(r: &mut Random, branch: i64, own: Vec<i64>) -> Net {
     let mut net = common(r, own.len());
     net.branch = branch;

@@ -13,9 +13,10 @@ use std::time::{Duration, Instant};
 
 type Make = fn(&mut Random, usize) -> Net;
 
-const SHAPES: [(&str, Make); 4] = [
+const SHAPES: [(&str, Make); 5] = [
     ("common", nets::common),
     ("tied", nets::tied),
+    ("falling", nets::falling),
     ("path, rising", nets::rising),
     ("path, spare", nets::spare),
 ];
