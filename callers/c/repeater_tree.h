@@ -66,7 +66,11 @@ enum {
 };
 
 /* Plans a tree of the largest possible worst slack for the net and writes its
- * listing to out.
+ * listing to out. Sinks go in one after another, the most urgent first, each by
+ * splitting the edge that keeps the worst slack largest; of several such edges
+ * the one whose lower end is nearest to the sink (branch points count at the
+ * root's position), then the one whose lower end has the lowest number. The
+ * same net always gives the same bytes.
  *
  *   net, net_length   the net text
  *   out, out_length   where the listing goes; bytes beyond it keep their values

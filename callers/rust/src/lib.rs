@@ -46,7 +46,10 @@ pub struct Measures {
 }
 
 /// Plans the net and writes the listing to the front of `out`; the bytes
-/// beyond it, and all of them at a refusal, keep their values.
+/// beyond it, and all of them at a refusal, keep their values. Of the edges
+/// that keep the worst slack largest a sink splits the one whose lower end is
+/// nearest to it (branch points count at the root's position), then the one
+/// whose lower end has the lowest number.
 ///
 /// ```
 /// let refusal = repeater_tree::plan(b"", &mut []).unwrap_err();

@@ -1,9 +1,9 @@
--- The marked nets and lines of document 01, those with a star, as one statement: what it says of texts here, the rest in the tree's own.
+-- The marked nets and lines of document 01, those with a star, and two nets of request 1 of 02, as one statement: what is said of texts here, the rest in the tree's own.
 use Prim.Native.Nat.{ℕ, _≤_}
 use mathlib.Core.Path.{_≡_}
 use mathlib.Core.List.{List}
 use lib.ListN.{length}
-use lib.IntN.{pos}
+use lib.IntN.{pos, negℤ}
 use Rattle.tree.specs.Marked as tree
 use Rattle.formats.specs.Bytes.{bytes}
 use Rattle.formats.specs.NetText.{InFormat}
@@ -19,6 +19,19 @@ textA1 = bytes "root=0,0\nbranch=20\nwire=2\nneed=1\nsinks=3\nsink=10,0,100\nsin
 -- "prints exactly, a line each"
 abbrev pub listingA : List ℕ
 listingA = bytes "slack=0\nwire=32\nsinks=3\nleaf=1,5\nleaf=2,5\nleaf=3,4\nnode=4,0,4,0\nnode=5,4,4,0\n"
+
+-- 02, request 1: the edge above a branch point is the nearest, and the nearer of two sinks
+abbrev pub textRootNearest : List ℕ
+textRootNearest = bytes "root=0,0\nbranch=20\nwire=2\nneed=-40\nsinks=3\nsink=10,0,20\nsink=10,0,20\nsink=1,0,2\n"
+
+abbrev pub listingRootNearest : List ℕ
+listingRootNearest = bytes "slack=-40\nwire=10\nsinks=3\nleaf=1,4\nleaf=2,4\nleaf=3,5\nnode=4,5,10,0\nnode=5,0,1,0\n"
+
+abbrev pub textNearerSink : List ℕ
+textNearerSink = bytes "root=0,0\nbranch=20\nwire=2\nneed=-40\nsinks=3\nsink=10,0,20\nsink=0,10,20\nsink=1,10,22\n"
+
+abbrev pub listingNearerSink : List ℕ
+listingNearerSink = bytes "slack=-40\nwire=21\nsinks=3\nleaf=1,4\nleaf=2,5\nleaf=3,5\nnode=4,0,0,0\nnode=5,4,0,10\n"
 
 pub record Marked : Type 0 where
   pub measures : tree.Marked
@@ -37,3 +50,10 @@ pub record Marked : Type 0 where
   pub ring : judgeOf textA (bytes "slack=0\nwire=32\nsinks=3\nleaf=1,0\nleaf=2,4\nleaf=3,5\nnode=4,5,4,0\nnode=5,4,4,0\n") ≡ judgeRefusal 10 2 5
   -- "n = 3, parents 4, 4, 4, 0, 4: 9,2,7."
   pub four-children : judgeOf textA (bytes "slack=0\nwire=32\nsinks=3\nleaf=1,4\nleaf=2,4\nleaf=3,4\nnode=4,0,4,0\nnode=5,4,4,0\n") ≡ judgeRefusal 9 2 7
+  -- the two nets of request 1, their whole listings, and that judge reads them back
+  pub root-format : InFormat textRootNearest tree.rootNearest
+  pub root-listing : planListing tree.rootNearest ≡ listingRootNearest
+  pub root-judge : judgeOf textRootNearest listingRootNearest ≡ record { number = 0; text = 0; line = 0; slack = negℤ (pos 40); wire = 10; best = negℤ (pos 40) }
+  pub sink-format : InFormat textNearerSink tree.nearerSink
+  pub sink-listing : planListing tree.nearerSink ≡ listingNearerSink
+  pub sink-judge : judgeOf textNearerSink listingNearerSink ≡ record { number = 0; text = 0; line = 0; slack = negℤ (pos 40); wire = 21; best = negℤ (pos 40) }

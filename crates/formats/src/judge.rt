@@ -21,8 +21,8 @@ use quantities::time::Time;
 use tree::children::wrong_children;
 use tree::found::Found;
 use tree::header::Header;
+use tree::kraft::kraft_maximum;
 use tree::measure::measure_tree;
-use tree::plan::kraft_maximum;
 use tree::reach::lowest_unreached;
 
 // The line of vertex v in a listing; 0 for the root, which has none.
@@ -33,14 +33,14 @@ fn vertex_line(v: usize) -> usize
     if v == 0 { 0 } else { v + 3 }
 }
 
-// The judgement of the stated slack and wire of a tree. The Kraft maximum is found last, where the tree's parents stood.
+// The judgement of the stated slack and wire of a tree. The Kraft maximum is found last, where the tree's slacks stood.
 fn judge_stated(
     header: Header,
     n: usize,
     xs: &[i64],
     ys: &[i64],
     required: &[i64],
-    parents: &mut [usize],
+    parents: &[usize],
     own: &mut [i64],
     slacks: &mut [i64],
     room: &mut [usize],
@@ -48,7 +48,7 @@ fn judge_stated(
     wire: Length,
 ) -> JudgeAnswer
     requires { ⌜ HoldsNet header n (now xs) (now ys) (now required) × HoldsTree n (now parents) (now xs) (now ys) ⌝ }
-    requires { ⌜ (n < length (now own)) × (n < length (now slacks)) × (2 * n ≤ length (now room)) ⌝ }
+    requires { ⌜ (n < length (now own)) × (n < length (now slacks)) × (n ≤ length (now room)) ⌝ }
     ensures { λ r. ⌜ judgeFigures r ≡ judgeFiguresOf (netOf header n (now (xs .entry)) (now (ys .entry)) (now (required .entry))) (record { slack = slack .0; wire = wire .0; tree = treeOf n (now (parents .entry)) (now (xs .entry)) (now (ys .entry)) }) ⌝ }
 {
     let tally = measure_tree(header, n, parents, xs, ys, required, slacks);
@@ -75,7 +75,7 @@ fn judge_stated(
             line: 2,
         };
     }
-    let best = kraft_maximum(header, n, xs, ys, required, parents, own, slacks, room);
+    let best = kraft_maximum(header, n, xs, ys, required, own, slacks, room);
     JudgeAnswer::Accepted {
         slack: worst,
         wire: total,
@@ -90,7 +90,7 @@ fn judge_tree(
     xs: &[i64],
     ys: &[i64],
     required: &[i64],
-    parents: &mut [usize],
+    parents: &[usize],
     own: &mut [i64],
     slacks: &mut [i64],
     room: &mut [usize],

@@ -74,7 +74,7 @@ fn emit(
     PlanAnswer::Planned { slack, wire, bytes }
 }
 
-// The plan of a net that stands in the arrays. `parents`, `own`, `slacks` and `room` are room to work in.
+// The plan of a net that stands in the arrays. The other lent arrays but for `out` are room to work in.
 fn plan_net(
     header: Header,
     n: usize,
@@ -85,15 +85,29 @@ fn plan_net(
     own: &mut [i64],
     slacks: &mut [i64],
     room: &mut [usize],
+    levels: &mut [usize],
+    below: &mut [usize],
     out: &mut [u8],
 ) -> PlanAnswer
     requires { ⌜ HoldsNet header n (now xs) (now ys) (now required) ⌝ }
-    requires { ⌜ (2 * n ≤ length (now xs)) × (2 * n ≤ length (now ys)) × (2 * n ≤ length (now parents)) × (n < length (now own)) × (n < length (now slacks)) × (4 * n ≤ length (now room)) ⌝ }
+    requires { ⌜ (2 * n ≤ length (now xs)) × (2 * n ≤ length (now ys)) × (2 * n ≤ length (now parents)) × (n < length (now own)) × (2 * n ≤ length (now slacks)) × (4 * n ≤ length (now room)) × (2 * n ≤ length (now levels)) × (2 * n ≤ length (now below)) ⌝ }
     ensures figures { λ r. ⌜ planFigures r ≡ planNet (netOf header n (now (xs .entry)) (now (ys .entry)) (now (required .entry))) (length (now (out .entry))) ⌝ }
     ensures output { λ r. ⌜ now (out .exit) ≡ overwritten (planBytes (netOf header n (now (xs .entry)) (now (ys .entry)) (now (required .entry))) (length (now (out .entry)))) (now (out .entry)) ⌝ }
 {
     let need = header.need;
-    let tally = tree::plan::plan(header, n, xs, ys, required, parents, own, slacks, room);
+    let tally = tree::plan::plan(
+        header,
+        n,
+        xs,
+        ys,
+        required,
+        parents,
+        own,
+        slacks,
+        room,
+        levels,
+        below,
+    );
     let slack = tally.worst;
     let wire = tally.wire;
     if slack.is_less(need) {
@@ -120,10 +134,12 @@ fn plan_rest(
     own: &mut [i64],
     slacks: &mut [i64],
     room: &mut [usize],
+    levels: &mut [usize],
+    below: &mut [usize],
     out: &mut [u8],
 ) -> PlanAnswer
     requires head { ⌜ (readNet (now net) ≡ fromSinks header root n (drop (next .at) (now net))) × (n ≤ 512) × (next .at ≤ length (now net)) × (next .line ≡ 6) ⌝ }
-    requires room { ⌜ (n < length (now xs)) × (2 * n ≤ length (now xs)) × (n < length (now ys)) × (2 * n ≤ length (now ys)) × (n < length (now required)) × (2 * n ≤ length (now parents)) × (n < length (now own)) × (n < length (now slacks)) × (4 * n ≤ length (now room)) ⌝ }
+    requires room { ⌜ (n < length (now xs)) × (2 * n ≤ length (now xs)) × (n < length (now ys)) × (2 * n ≤ length (now ys)) × (n < length (now required)) × (2 * n ≤ length (now parents)) × (n < length (now own)) × (2 * n ≤ length (now slacks)) × (4 * n ≤ length (now room)) × (2 * n ≤ length (now levels)) × (2 * n ≤ length (now below)) ⌝ }
     ensures figures { λ r. ⌜ planFigures r ≡ planOf (now (net .entry)) (length (now (out .entry))) ⌝ }
     ensures output { λ r. ⌜ now (out .exit) ≡ planOutput (now (net .entry)) (now (out .entry)) ⌝ }
 {
@@ -134,7 +150,20 @@ fn plan_rest(
             line,
         };
     }
-    plan_net(header, n, xs, ys, required, parents, own, slacks, room, out)
+    plan_net(
+        header,
+        n,
+        xs,
+        ys,
+        required,
+        parents,
+        own,
+        slacks,
+        room,
+        levels,
+        below,
+        out,
+    )
 }
 
 // A net of at most 16 sinks: small arrays, which are soon cleared.
@@ -155,8 +184,10 @@ fn plan_small(
     let mut required = [0i64; 17];
     let mut parents = [0usize; 32];
     let mut own = [0i64; 17];
-    let mut slacks = [0i64; 17];
+    let mut slacks = [0i64; 32];
     let mut room = [0usize; 64];
+    let mut levels = [0usize; 32];
+    let mut below = [0usize; 32];
     plan_rest(
         net,
         header,
@@ -170,6 +201,49 @@ fn plan_small(
         &mut own,
         &mut slacks,
         &mut room,
+        &mut levels,
+        &mut below,
+        out,
+    )
+}
+
+// A net of at most 64 sinks, the same.
+fn plan_medium(
+    net: &[u8],
+    header: Header,
+    root: Point,
+    n: usize,
+    next: Place,
+    out: &mut [u8],
+) -> PlanAnswer
+    requires head { ⌜ (readNet (now net) ≡ fromSinks header root n (drop (next .at) (now net))) × (n ≤ 64) × (next .at ≤ length (now net)) × (next .line ≡ 6) ⌝ }
+    ensures figures { λ r. ⌜ planFigures r ≡ planOf (now (net .entry)) (length (now (out .entry))) ⌝ }
+    ensures output { λ r. ⌜ now (out .exit) ≡ planOutput (now (net .entry)) (now (out .entry)) ⌝ }
+{
+    let mut xs = [0i64; 128];
+    let mut ys = [0i64; 128];
+    let mut required = [0i64; 65];
+    let mut parents = [0usize; 128];
+    let mut own = [0i64; 65];
+    let mut slacks = [0i64; 128];
+    let mut room = [0usize; 256];
+    let mut levels = [0usize; 128];
+    let mut below = [0usize; 128];
+    plan_rest(
+        net,
+        header,
+        root,
+        n,
+        next,
+        &mut xs,
+        &mut ys,
+        &mut required,
+        &mut parents,
+        &mut own,
+        &mut slacks,
+        &mut room,
+        &mut levels,
+        &mut below,
         out,
     )
 }
@@ -192,8 +266,10 @@ fn plan_large(
     let mut required = [0i64; 513];
     let mut parents = [0usize; 1024];
     let mut own = [0i64; 513];
-    let mut slacks = [0i64; 513];
+    let mut slacks = [0i64; 1024];
     let mut room = [0usize; 2048];
+    let mut levels = [0usize; 1024];
+    let mut below = [0usize; 1024];
     plan_rest(
         net,
         header,
@@ -207,6 +283,8 @@ fn plan_large(
         &mut own,
         &mut slacks,
         &mut room,
+        &mut levels,
+        &mut below,
         out,
     )
 }
@@ -230,6 +308,8 @@ pub fn plan(net: &[u8], out: &mut [u8]) -> PlanAnswer
         } => {
             if n <= 16 {
                 plan_small(net, header, root, n, next, out)
+            } else if n <= 64 {
+                plan_medium(net, header, root, n, next, out)
             } else {
                 plan_large(net, header, root, n, next, out)
             }

@@ -1,5 +1,6 @@
 -- The net and the tree that a program's arrays hold. Each array has a place for every vertex, by its number. Definitions alone.
 use Prim.Native.Nat.{ℕ, suc, _+_, _*_, _-_, _≤_, _<_}
+use mathlib.Core.Path.{_≡_}
 use mathlib.Core.List.{List, map}
 use lib.ListN.{length, getD}
 use lib.IntN.{ℤ, pos}
@@ -62,9 +63,22 @@ pub record HoldsTree (n : ℕ) (parents : List ℕ) (xs ys : List ℤ) : Type 0 
   pub parents-in : Parents n parents
   pub points-in : Points (2 * n) xs ys
 
--- each branch point has a higher number than its parent
-abbrev pub Downward : ℕ → List ℕ → Type 0
-Downward n parents = (b : ℕ) → n < b → b < 2 * n → getD parents b 0 < b
+-- the first m places of `upward` hold the vertices of a tree, each before its parent: an order from the leaves up
+pub record LeavesUp (Vertex : ℕ → Type 0) (m : ℕ) (parents upward : List ℕ) : Type 0 where
+  pub inside : (i : ℕ) → i < m → Vertex (getD upward i 0)
+  pub all : (v : ℕ) → Vertex v → (i : ℕ) × (i < m) × (getD upward i 0 ≡ v)
+  pub once : (h i : ℕ) → h < m → i < m → getD upward h 0 ≡ getD upward i 0 → h ≡ i
+  pub before : (h i : ℕ) → h < m → i < m → getD parents (getD upward h 0) 0 ≡ getD upward i 0 → h < i
+
+-- the vertices 1 to 2n-1
+abbrev pub Below : ℕ → ℕ → Type 0
+Below n v = (1 ≤ v) × (v < 2 * n)
+
+-- `below` leads from each vertex of an order to the one before it: from the root, which stands behind the last, to the last, and from the first to 0
+pub record Chained (m : ℕ) (upward below : List ℕ) : Type 0 where
+  pub size : length upward ≡ m
+  pub first : getD below (getD upward 0 0) 0 ≡ 0
+  pub next : (i : ℕ) → i < m → getD below (getD upward (suc i) 0) 0 ≡ getD upward i 0
 
 -- the median of the root and of the two children of b, which stand in `kids` at the places 2b and 2b+1
 abbrev pub medianAt : List ℤ → List ℤ → List ℕ → ℕ → Point

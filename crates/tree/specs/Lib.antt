@@ -13,4 +13,7 @@ pub mod Arrays
 pub mod Tallies
 pub mod Found
 pub mod Insertion
+pub mod Choice
+pub mod Regathering
+pub mod SinkSplits
 pub mod Marked

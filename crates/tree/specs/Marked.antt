@@ -1,4 +1,4 @@
--- The marked nets of document 01, and what it says of them, as far as it needs no text: one statement.
+-- The marked nets of document 01, and two of request 1 of 02, and what is said of them, as far as it needs no text: one statement.
 use Prim.Native.Nat.{ℕ, _<_}
 use mathlib.Core.Path.{_≡_}
 use mathlib.Core.List.{[], _∷_}
@@ -48,6 +48,26 @@ oneSink c = record { root = at (pos 0) (pos 0); branch = c; wire = 2; need = pos
 abbrev pub twoSinks : Net
 twoSinks = record { root = at (pos 0) (pos 0); branch = 3; wire = 2; need = pos 0; sinks = sink (pos 1) (pos 0) (pos 7) ∷ (sink (pos 0) (pos 0) (pos 5) ∷ []) }
 
+-- 02, request 1: two tied sinks away from the new one, which is near the root
+abbrev pub rootNearest : Net
+rootNearest = record {
+  root = at (pos 0) (pos 0);
+  branch = 20;
+  wire = 2;
+  need = negℤ (pos 40);
+  sinks = sink (pos 10) (pos 0) (pos 20) ∷ (sink (pos 10) (pos 0) (pos 20) ∷ (sink (pos 1) (pos 0) (pos 2) ∷ []));
+}
+
+-- 02, request 1: all edges tie for the new sink, which is nearer to sink 2 than to sink 1 and the root
+abbrev pub nearerSink : Net
+nearerSink = record {
+  root = at (pos 0) (pos 0);
+  branch = 20;
+  wire = 2;
+  need = negℤ (pos 40);
+  sinks = sink (pos 10) (pos 0) (pos 20) ∷ (sink (pos 0) (pos 10) (pos 20) ∷ (sink (pos 1) (pos 10) (pos 22) ∷ []));
+}
+
 pub record Marked : Type 0 where
   -- A: "Own slacks 80, 40, 30", its listing's parents and points, slack 0 and wire 32, and best 0
   pub A-own : ownSlacks netA ≡ pos 80 ∷ (pos 40 ∷ (pos 30 ∷ []))
@@ -67,6 +87,14 @@ pub record Marked : Type 0 where
   pub one-best : (c : ℕ) → 0 < c → IsKraftMaximum c (ownSlacks (oneSink c)) (negℤ (pos 4))
   -- two sinks: "slack 2"
   pub two-slack : worstSlack twoSinks (plan twoSinks) ≡ pos 2
+  -- the edge above branch point 4, counted at the root's position, is the nearest: parents of 1 to 5 are 4, 4, 5, 5, 0
+  pub nearest-root : plan rootNearest ≡ record { parents = 4 ∷ (4 ∷ (5 ∷ (5 ∷ (0 ∷ [])))); points = at (pos 10) (pos 0) ∷ (at (pos 1) (pos 0) ∷ []) }
+  pub nearest-root-slack : worstSlack rootNearest (plan rootNearest) ≡ negℤ (pos 40)
+  pub nearest-root-wire : wireLength rootNearest (plan rootNearest) ≡ 10
+  -- the edge to sink 2 is split, although sink 1 has the lower number
+  pub nearest-sink : plan nearerSink ≡ record { parents = 4 ∷ (5 ∷ (5 ∷ (0 ∷ (4 ∷ [])))); points = at (pos 0) (pos 0) ∷ (at (pos 0) (pos 10) ∷ []) }
+  pub nearest-sink-slack : worstSlack nearerSink (plan nearerSink) ≡ negℤ (pos 40)
+  pub nearest-sink-wire : wireLength nearerSink (plan nearerSink) ≡ 21
   -- "The median of 0,0 and 4,6 and 10,0 is 4,0."
   pub median-of-three : medianPoint (at (pos 0) (pos 0)) (at (pos 4) (pos 6)) (at (pos 10) (pos 0)) ≡ at (pos 4) (pos 0)
   -- "n = 3, parents of 1 to 5 are 0, 4, 5, 5, 4: 10,2,5": the counts are right, vertex 2 is not reached, so the tree is not legal

@@ -6,9 +6,10 @@ use lib.ListN.{take, drop, set, replicate}
 use lib.Dec.{ltb}
 use lib.IntN.{ℤ}
 use lib.Signed.{ltZ}
+use Rattle.quantities.specs.Distance.{distance}
 use Rattle.tree.specs.Lists.{down}
-use Rattle.tree.specs.Net.{Net, size, sinkNumbers, ownSlack}
-use Rattle.tree.specs.Tree.{Tree, parentOf}
+use Rattle.tree.specs.Net.{Net, size, sinkNumbers, sinkAt, ownSlack}
+use Rattle.tree.specs.Tree.{Tree, parentOf, place}
 use Rattle.tree.specs.Measures.{worstOver}
 
 -- ---- 1. "Order the sinks by rising a', ties by lower number."
@@ -56,9 +57,24 @@ worstAfter N S k P s v = worstOver N (unsettled N (split P (size N) k s v)) (s �
 abbrev pub TieRule : Type 0
 TieRule = Net → List ℕ → ℕ → ℕ → ℕ → Bool
 
--- "ties go to the edge whose lower end v has the lowest vertex number"
-abbrev pub lowest : TieRule
-lowest N P s u v = ltb u v
+-- 02, request 1: "Among edges of equal worst slack, take the one whose lower end is nearest to the new sink, branch points counted at the root's position as
+-- during insertion; then the lowest number."
+
+-- how far the lower end v stands from the new sink s, all branch points at the root's position
+abbrev pub far : Net → List ℕ → ℕ → ℕ → ℕ
+far N P s v = distance (place N (unsettled N P) v) (sinkAt N s)
+
+-- u goes before v, of distances a and b
+abbrev pub nearer : ℕ → ℕ → Bool → Bool
+nearer a b t = cond (ltb a b) true (cond (ltb b a) false t)
+
+-- the edge to u goes before the edge to v: the nearest, then the lowest number
+abbrev pub nearest : TieRule
+nearest N P s u v = nearer (far N P s u) (far N P s v) (ltb u v)
+
+-- the house's rule
+unfoldable pub tieRule : TieRule
+tieRule = nearest
 
 -- u goes before v, of worst slacks a and b
 abbrev pub ranks : ℤ → ℤ → Bool → Bool

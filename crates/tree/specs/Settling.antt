@@ -9,7 +9,7 @@ use Rattle.quantities.specs.Median.{medianPoint}
 use Rattle.tree.specs.Lists.{range}
 use Rattle.tree.specs.Net.{Net, size, branchNumbers, sinkAt}
 use Rattle.tree.specs.Tree.{Tree, parentOf}
-use Rattle.tree.specs.Planning.{TieRule, lowest, planParents}
+use Rattle.tree.specs.Planning.{TieRule, tieRule, planParents}
 
 -- the vertices with parent b, the lowest first
 abbrev pub childrenIn : (ℕ → ℕ) → ℕ → List ℕ → List ℕ
@@ -32,10 +32,10 @@ settled N P (suc k) v =
 abbrev pub settledTree : Net → List ℕ → Tree
 settledTree N P = record { parents = P; points = map (settled N P (2 * size N)) (branchNumbers (size N)) }
 
--- the planned tree, under any tie rule and under 01's
+-- the planned tree, under any tie rule and under the house's
 unfoldable pub planBy : TieRule → Net → Tree
 planBy tie N = settledTree N (planParents tie N)
 
 unfoldable pub plan : Net → Tree
 unfolding planBy
-plan N = planBy lowest N
+plan N = planBy tieRule N

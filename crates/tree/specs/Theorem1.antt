@@ -11,7 +11,7 @@ use Rattle.tree.specs.Net.{Net, size, ownSlacks}
 use Rattle.tree.specs.Tree.{Tree, Legal, LegalTree}
 use Rattle.tree.specs.Measures.{depth, slack, worstSlack}
 use Rattle.tree.specs.Kraft.{IsKraftMaximum, kraftMaximum}
-use Rattle.tree.specs.Planning.{order, unsettled, lowest, parentsAfter}
+use Rattle.tree.specs.Planning.{order, unsettled, tieRule, parentsAfter}
 use Rattle.tree.specs.Settling.{settledTree, plan}
 
 pub record Theorem1 (N : Net) : Type 0 where
@@ -25,7 +25,7 @@ pub record Theorem1 (N : Net) : Type 0 where
   -- "no legal tree has worst slack t or more" exactly where t is above it
   pub unreachable : (t : ℤ) → (kraftMaximum (N .branch) (ownSlacks N) <ℤ t) ↔ ((R : Tree) → LegalTree N R → worstSlack N R <ℤ t)
   -- "After every insertion the sum of 2^-(branch points above the sink), over the sinks inserted, is exactly 1", for any m that is no smaller than each
-  pub insertions : (j : ℕ) → j < size N → (m : ℕ) → ((s : ℕ) → count s (take (suc j) (order N)) ≢ 0 → depth N (unsettled N (parentsAfter lowest N j)) s ≤ m)
-      → sumOver (take (suc j) (order N)) (λ s. 2 ^ (m - depth N (unsettled N (parentsAfter lowest N j)) s)) ≡ 2 ^ m
+  pub insertions : (j : ℕ) → j < size N → (m : ℕ) → ((s : ℕ) → count s (take (suc j) (order N)) ≢ 0 → depth N (unsettled N (parentsAfter tieRule N j)) s ≤ m)
+      → sumOver (take (suc j) (order N)) (λ s. 2 ^ (m - depth N (unsettled N (parentsAfter tieRule N j)) s)) ≡ 2 ^ m
   -- Settling: "No sink's slack changes."
   pub settling : (P : List ℕ) → Legal (size N) P → (s : ℕ) → 1 ≤ s → s ≤ size N → slack N (settledTree N P) s ≡ slack N (unsettled N P) s

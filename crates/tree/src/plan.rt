@@ -1,12 +1,8 @@
-// The first plan (document 000, P1), and the Kraft maximum.
+// The first plan (document 000, P1).
 ghost use mathlib.Core.Path.{_≡_};
-ghost use mathlib.Core.List.{List};
 ghost use Prim.Native.Nat.{ℕ, _*_, _≤_, _<_};
 ghost use lib.ListN.{length};
-ghost use lib.IntN.{ℤ};
-ghost use Rattle.tree.specs.Net.{ownSlacks};
 ghost use Rattle.tree.specs.Measures.{worstSlack, wireLength};
-ghost use Rattle.tree.specs.Kraft.{IsKraftMaximum};
 ghost use Rattle.tree.specs.Settling.{plan};
 ghost use Rattle.tree.specs.Arrays.{pointAt, netOf, treeOf, HoldsNet};
 use crate::header::Header;
@@ -16,10 +12,9 @@ use crate::measure::measure;
 use crate::order::order_sinks;
 use crate::order::own_slacks;
 use crate::settle::settle;
-use quantities::time::Time;
 
 // The planned tree goes to `parents` and to the places of the branch points in `xs` and `ys`; its worst slack and its wire are returned.
-// The root and the sinks stay where they stand. `own`, `slacks` and `room` are room to work in.
+// The root and the sinks stay where they stand. The other lent arrays are room to work in.
 pub fn plan(
     h: Header,
     n: usize,
@@ -30,9 +25,11 @@ pub fn plan(
     own: &mut [i64],
     slacks: &mut [i64],
     room: &mut [usize],
+    levels: &mut [usize],
+    below: &mut [usize],
 ) -> Tally
     requires { ⌜ HoldsNet h n (now xs) (now ys) (now required) ⌝ }
-    requires { ⌜ (2 * n ≤ length (now xs)) × (2 * n ≤ length (now ys)) × (2 * n ≤ length (now parents)) × (n < length (now own)) × (n < length (now slacks)) × (4 * n ≤ length (now room)) ⌝ }
+    requires { ⌜ (2 * n ≤ length (now xs)) × (2 * n ≤ length (now ys)) × (2 * n ≤ length (now parents)) × (n < length (now own)) × (2 * n ≤ length (now slacks)) × (4 * n ≤ length (now room)) × (2 * n ≤ length (now levels)) × (2 * n ≤ length (now below)) ⌝ }
     ensures tree { λ r. ⌜ treeOf n (now (parents .exit)) (now (xs .exit)) (now (ys .exit)) ≡ plan (netOf h n (now (xs .entry)) (now (ys .entry)) (now (required .entry))) ⌝ }
     ensures kept { λ r. ⌜ ((v : ℕ) → v ≤ n → pointAt (now (xs .exit)) (now (ys .exit)) v ≡ pointAt (now (xs .entry)) (now (ys .entry)) v) ⌝ }
     ensures worst { λ r. ⌜ r .worst .0 ≡ worstSlack (netOf h n (now (xs .entry)) (now (ys .entry)) (now (required .entry))) (plan (netOf h n (now (xs .entry)) (now (ys .entry)) (now (required .entry)))) ⌝ }
@@ -40,28 +37,18 @@ pub fn plan(
 {
     own_slacks(h, n, xs, ys, required, own);
     order_sinks(n, own, room);
-    insert_all(h, n, own, room, slacks, parents);
-    settle(n, parents, xs, ys, room);
+    insert_all(
+        h.branch,
+        n,
+        xs,
+        ys,
+        own,
+        room,
+        levels,
+        slacks,
+        parents,
+        below,
+    );
+    settle(n, parents, levels, xs, ys, room);
     measure(n, parents, xs, ys, slacks)
-}
-
-// The Kraft maximum: the worst slack of the plan, which needs no settling. The lent arrays but for the net's are room to work in.
-pub fn kraft_maximum(
-    h: Header,
-    n: usize,
-    xs: &[i64],
-    ys: &[i64],
-    required: &[i64],
-    parents: &mut [usize],
-    own: &mut [i64],
-    slacks: &mut [i64],
-    room: &mut [usize],
-) -> Time
-    requires { ⌜ HoldsNet h n (now xs) (now ys) (now required) ⌝ }
-    requires { ⌜ (2 * n ≤ length (now parents)) × (n < length (now own)) × (n < length (now slacks)) × (n ≤ length (now room)) ⌝ }
-    ensures { λ r. ⌜ IsKraftMaximum (netOf h n (now (xs .entry)) (now (ys .entry)) (now (required .entry)) .branch) (ownSlacks (netOf h n (now (xs .entry)) (now (ys .entry)) (now (required .entry)))) (r .0) ⌝ }
-{
-    own_slacks(h, n, xs, ys, required, own);
-    order_sinks(n, own, room);
-    insert_all(h, n, own, room, slacks, parents)
 }

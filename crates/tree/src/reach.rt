@@ -1,6 +1,6 @@
 // Which vertices are reached from the root.
 ghost use mathlib.Core.Path.{_≡_};
-ghost use Prim.Native.Nat.{ℕ, _*_, _-_, _≤_, _<_};
+ghost use Prim.Native.Nat.{_*_, _-_, _<_};
 ghost use lib.Dec.{eqb};
 ghost use Rattle.tree.specs.Tree.{ancestor, parentOf};
 ghost use Rattle.tree.specs.Defects.{unreached};

@@ -2,13 +2,13 @@
 ghost use mathlib.Core.Path.{_≡_};
 ghost use mathlib.Core.List.{List};
 ghost use mathlib.Core.Logic.{_≢_};
-ghost use Prim.Native.Nat.{ℕ, _+_, _*_, _≤_, _<_};
+ghost use Prim.Native.Nat.{ℕ, _+_, _*_, _-_, _≤_, _<_};
 ghost use lib.ListN.{length, getD, set};
 ghost use lib.IntN.{ℤ};
 ghost use Rattle.tree.specs.declared.header.Header.{Header};
 ghost use Rattle.tree.specs.Tree.{Legal};
 ghost use Rattle.tree.specs.Settling.{children, settledTree};
-ghost use Rattle.tree.specs.Arrays.{pointAt, parentsOf, netOf, treeOf, medianAt, Parents, Downward};
+ghost use Rattle.tree.specs.Arrays.{pointAt, parentsOf, netOf, treeOf, medianAt, Parents, LeavesUp, Below};
 use crate::measure::point;
 use crate::places::clear;
 use quantities::point::median_point;
@@ -58,18 +58,37 @@ fn settle_one(xs: &mut [i64], ys: &mut [i64], kids: &[usize], b: usize)
     ys[b] = y;
 }
 
-// Settles a legal tree in which each branch point has a higher number than the branch point above it: the highest number first is then from the leaves up.
-// The root and the sinks stay; `kids` is room for the children.
-pub fn settle(n: usize, parents: &[usize], xs: &mut [i64], ys: &mut [i64], kids: &mut [usize])
-    requires { ⌜ Parents n (now parents) × Legal n (parentsOf n (now parents)) × Downward n (now parents) ⌝ }
-    requires { ⌜ (2 * n ≤ length (now xs)) × (2 * n ≤ length (now ys)) × (4 * n ≤ length (now kids)) ⌝ }
+// Branch point v moves to its place; a sink stays.
+fn settle_vertex(n: usize, xs: &mut [i64], ys: &mut [i64], kids: &[usize], v: usize)
+    requires room { ⌜ (v < length (now xs)) × (v < length (now ys)) × (n < v → 2 * v + 1 < length (now kids)) ⌝ }
+    requires left { ⌜ (n < v → (getD (now kids) (2 * v) 0 < length (now xs)) × (getD (now kids) (2 * v) 0 < length (now ys))) ⌝ }
+    requires right { ⌜ (n < v → (getD (now kids) (2 * v + 1) 0 < length (now xs)) × (getD (now kids) (2 * v + 1) 0 < length (now ys))) ⌝ }
+    ensures sink { λ r. ⌜ (v ≤ n → (now (xs .exit) ≡ now (xs .entry)) × (now (ys .exit) ≡ now (ys .entry))) ⌝ }
+    ensures branch { λ r. ⌜ (n < v → (now (xs .exit) ≡ set (now (xs .entry)) v (medianAt (now (xs .entry)) (now (ys .entry)) (now (kids .entry)) v .x)) × (now (ys .exit) ≡ set (now (ys .entry)) v (medianAt (now (xs .entry)) (now (ys .entry)) (now (kids .entry)) v .y))) ⌝ }
+{
+    if n < v {
+        settle_one(xs, ys, kids, v);
+    }
+}
+
+// Settles a legal tree whose vertices stand in `upward` from the leaves up. The root and the sinks stay; `kids` is room for the children.
+pub fn settle(
+    n: usize,
+    parents: &[usize],
+    upward: &[usize],
+    xs: &mut [i64],
+    ys: &mut [i64],
+    kids: &mut [usize],
+)
+    requires { ⌜ Parents n (now parents) × Legal n (parentsOf n (now parents)) × LeavesUp (Below n) (2 * n - 1) (now parents) (now upward) ⌝ }
+    requires { ⌜ (2 * n ≤ length (now upward)) × (2 * n ≤ length (now xs)) × (2 * n ≤ length (now ys)) × (4 * n ≤ length (now kids)) ⌝ }
     ensures tree { λ r. ⌜ ((h : Header) (required : List ℤ) → treeOf n (now (parents .entry)) (now (xs .exit)) (now (ys .exit)) ≡ settledTree (netOf h n (now (xs .entry)) (now (ys .entry)) required) (parentsOf n (now (parents .entry)))) ⌝ }
     ensures kept { λ r. ⌜ ((v : ℕ) → v ≤ n → pointAt (now (xs .exit)) (now (ys .exit)) v ≡ pointAt (now (xs .entry)) (now (ys .entry)) v) ⌝ }
 {
     list_children(n, parents, kids);
-    let mut b = 2 * n;
-    while n + 1 < b {
-        b -= 1;
-        settle_one(xs, ys, kids, b);
+    let mut i = 0;
+    while i < 2 * n - 1 {
+        settle_vertex(n, xs, ys, kids, upward[i]);
+        i += 1;
     }
 }

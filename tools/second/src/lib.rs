@@ -3,6 +3,7 @@
 pub mod damage;
 pub mod kinds;
 pub mod library;
+pub mod near;
 pub mod nets;
 pub mod programs;
 pub mod random;

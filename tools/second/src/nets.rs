@@ -1,5 +1,6 @@
 //! Seeded nets of every character.
 
+use crate::near;
 use crate::random::Random;
 use second_reference::net::{Net, Sink, ARRIVAL, BRANCH, COORDINATE, NEED, WIRE};
 use second_reference::tree::Point;
@@ -39,13 +40,18 @@ pub fn tied(r: &mut Random, n: usize) -> Net {
     let kinds = r.between(0, 3);
     let branch = r.between(1, 4);
     let sinks = (0..n)
-        .map(|_| {
-            let at = point(r, spread);
-            let own = branch * r.between(0, kinds);
-            Sink {
-                at,
-                arrival: own + wire * root.distance(at) as i64,
-            }
+        .map(|_| (point(r, spread), branch * r.between(0, kinds)))
+        .collect();
+    of_slacks(root, branch, wire, sinks)
+}
+
+/// A net of these points and own slacks.
+pub fn of_slacks(root: Point, branch: i64, wire: i64, sinks: Vec<(Point, i64)>) -> Net {
+    let sinks = sinks
+        .into_iter()
+        .map(|(at, own)| Sink {
+            at,
+            arrival: own + wire * root.distance(at) as i64,
         })
         .collect();
     Net {
@@ -113,7 +119,7 @@ pub fn path_like(r: &mut Random, n: usize) -> Net {
     if r.once_in(2) {
         rising(r, n)
     } else {
-        spare(r, n)
+        near::deep(r, n)
     }
 }
 
@@ -128,8 +134,7 @@ pub fn rising(r: &mut Random, n: usize) -> Net {
     with_own_slacks(r, branch, own)
 }
 
-/// One urgent sink and sink 1 with time to spare, which the tie splits again
-/// and again.
+/// One urgent sink, the others with time to spare: nearly all edges tie.
 pub fn spare(r: &mut Random, n: usize) -> Net {
     let branch = r.between(1, 1000);
     let mut own = vec![branch * (n as i64 + 2); n];
@@ -162,11 +167,12 @@ pub fn shuffle<T>(r: &mut Random, list: &mut [T]) {
 }
 
 pub fn any(r: &mut Random, n: usize) -> Net {
-    match r.index(5) {
+    match r.index(7) {
         0 => common(r, n),
         1 => tied(r, n),
         2 => coincident(r, n),
         3 => extreme(r, n),
-        _ => path_like(r, n),
+        4 => path_like(r, n),
+        _ => near::any(r, n),
     }
 }

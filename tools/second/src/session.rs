@@ -3,6 +3,7 @@
 
 use crate::library;
 use second_reference::answer::Answer;
+use second_reference::listing::Listing;
 use second_reference::net::Net;
 use second_reference::{kraft, plain, slow};
 use std::collections::BTreeMap;
@@ -19,6 +20,8 @@ pub struct Session {
     pub counts: BTreeMap<&'static str, u64>,
     /// Answers by the refusal's number: of plan, of judge.
     pub numbers: [[u64; 13]; 2],
+    /// Plans in which an edge above a branch point was split.
+    pub split_above_branch_point: u64,
     pub disagreements: usize,
 }
 
@@ -55,6 +58,9 @@ impl Session {
         let expected = plain::plan(net, &mut other[..length]);
         self.compare_plan("plain", net, (answer, &out), (expected, &other));
         let read = Net::read(net);
+        if let (Ok(read), 0) = (&read, expected.number) {
+            self.count_split(read, &other[..expected.last as usize]);
+        }
         match read {
             Ok(read) if read.sinks.len() > slow::MOST_SINKS => {
                 self.compare_kraft(net, length, answer, &read)
@@ -67,6 +73,15 @@ impl Session {
         }
         out.truncate(length);
         Planned { answer, out }
+    }
+
+    /// The branch point that splits an edge is made after its lower end, so it
+    /// has the higher number.
+    fn count_split(&mut self, net: &Net, listing: &[u8]) {
+        let n = net.sinks.len();
+        let tree = Listing::read(listing, net).expect("a plan's listing").tree;
+        let split = (n + 1..2 * n).any(|v| tree.parent[v] > v);
+        self.split_above_branch_point += u64::from(split);
     }
 
     /// What the definitions alone say of a large net's plan.

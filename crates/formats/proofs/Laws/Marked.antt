@@ -4,18 +4,19 @@ use mathlib.Core.Path.{_≡_, refl, ap, _∙_}
 use mathlib.Core.List.{List, [], _∷_}
 use native.Mathlib.Omega.{arith}
 use lib.ListN.{length}
-use lib.IntN.{ℤ, pos}
+use lib.IntN.{ℤ, pos, negℤ}
 use Rattle.quantities.specs.Linear.{whole}
 use Rattle.quantities.specs.Order.{minℤ, maxℤ}
 use Rattle.quantities.specs.Floor.{floorDiv}
 use Rattle.quantities.specs.Distance.{span, distance}
 use Rattle.quantities.specs.Median.{median, medianPoint}
-use Rattle.tree.specs.Net.{Net, delay}
+use Rattle.tree.specs.Net.{Net, size, delay}
 use Rattle.tree.specs.Tree.{Tree}
 use Rattle.tree.specs.Measures.{worstSlack, wireLength}
 use Rattle.tree.specs.Kraft.{kraftMaximum, searchDown}
+use Rattle.tree.specs.Planning.{tieRule}
 use Rattle.tree.specs.Settling.{plan, planBy}
-use Rattle.tree.specs.Marked.{netA, at}
+use Rattle.tree.specs.Marked.{netA, rootNearest, nearerSink, at}
 use Rattle.tree.proofs.Laws.Marked as tree
 use Rattle.formats.specs.Bytes.{bytes}
 use Rattle.formats.specs.Decimal.{digits, showNat, show, lead, natural, field}
@@ -25,7 +26,7 @@ use Rattle.formats.specs.Reading.{value}
 use Rattle.formats.specs.NetText.{readNet}
 use Rattle.formats.specs.ListingText.{Listing, listingText, readListing}
 use Rattle.formats.specs.Answers.{planOf, planListing, planNet, planRead, planRefusal, judgeOf, judgeNet, judgeListing, judgeTree}
-use Rattle.formats.specs.Marked.{textA, textA1, listingA, Marked}
+use Rattle.formats.specs.Marked.{textA, textA1, listingA, textRootNearest, listingRootNearest, textNearerSink, listingNearerSink, Marked}
 use Rattle.formats.proofs.Laws.NetTexts.{net-sound}
 use Rattle.formats.proofs.Laws.Answers.{Ends, unreachable, short, written, ends}
 
@@ -45,10 +46,21 @@ read-A1 = refl
 tree-of : List ℕ → Tree
 tree-of parents = record { parents = parents; points = at (pos 4) (pos 0) ∷ (at (pos 4) (pos 0) ∷ []) }
 
--- a listing of A that is read as G, judged
-judged : (s : List ℕ) (G : Listing) → readListing 3 s ≡ value G → judgeOf textA s ≡ judgeTree netA G
+read-root : readNet textRootNearest ≡ value rootNearest
+unfolding readNet numberThen rowIn begins lineIn field natural digitsValue lead
+read-root = refl
+
+read-sink : readNet textNearerSink ≡ value nearerSink
+unfolding readNet numberThen rowIn begins lineIn field natural digitsValue lead
+read-sink = refl
+
+-- a net that is read as N and a listing that is read as G, judged
+judged-over : (net : List ℕ) (N : Net) → readNet net ≡ value N → (s : List ℕ) (G : Listing) → readListing (size N) s ≡ value G → judgeOf net s ≡ judgeTree N G
 unfolding judgeOf
-judged s G e = ap (λ o. judgeNet o s) read-A ∙ ap (judgeListing netA) e
+judged-over net N r s G e = ap (λ o. judgeNet o s) r ∙ ap (judgeListing N) e
+
+judged : (s : List ℕ) (G : Listing) → readListing 3 s ≡ value G → judgeOf textA s ≡ judgeTree netA G
+judged s G e = judged-over textA netA read-A s G e
 
 listed : ℤ → ℕ → List ℕ → Listing
 listed slack wire parents = record { slack = slack; wire = wire; tree = tree-of parents }
@@ -84,6 +96,26 @@ A-judged : judgeOf textA listingA ≡ record { number = 0; text = 0; line = 0; s
 unfolding listed tree-of readListing numberThen rowIn begins lineIn field natural digitsValue lead worstSlack wireLength minℤ delay distance span kraftMaximum searchDown floorDiv
 A-judged = judged listingA (listed (pos 0) 32 (5 ∷ (5 ∷ (4 ∷ (0 ∷ (4 ∷ [])))))) refl
 
+-- ---- the nets of request 1
+
+plan-root : planListing rootNearest ≡ listingRootNearest
+unfolding planListing listingText digits showNat show worstSlack wireLength plan planBy tieRule minℤ maxℤ median medianPoint delay distance span
+plan-root = refl
+
+plan-sink : planListing nearerSink ≡ listingNearerSink
+unfolding planListing listingText digits showNat show worstSlack wireLength plan planBy tieRule minℤ maxℤ median medianPoint delay distance span
+plan-sink = refl
+
+root-judged : judgeOf textRootNearest listingRootNearest ≡ record { number = 0; text = 0; line = 0; slack = negℤ (pos 40); wire = 10; best = negℤ (pos 40) }
+unfolding readListing numberThen rowIn begins lineIn field natural digitsValue lead worstSlack wireLength minℤ delay distance span kraftMaximum searchDown floorDiv
+root-judged = judged-over textRootNearest rootNearest read-root listingRootNearest
+    (record { slack = negℤ (pos 40); wire = 10; tree = record { parents = 4 ∷ (4 ∷ (5 ∷ (5 ∷ (0 ∷ [])))); points = at (pos 10) (pos 0) ∷ (at (pos 1) (pos 0) ∷ []) } }) refl
+
+sink-judged : judgeOf textNearerSink listingNearerSink ≡ record { number = 0; text = 0; line = 0; slack = negℤ (pos 40); wire = 21; best = negℤ (pos 40) }
+unfolding readListing numberThen rowIn begins lineIn field natural digitsValue lead worstSlack wireLength minℤ delay distance span kraftMaximum searchDown floorDiv
+sink-judged = judged-over textNearerSink nearerSink read-sink listingNearerSink
+    (record { slack = negℤ (pos 40); wire = 21; tree = record { parents = 4 ∷ (5 ∷ (5 ∷ (0 ∷ (4 ∷ [])))); points = at (pos 0) (pos 0) ∷ (at (pos 0) (pos 10) ∷ []) } }) refl
+
 pub marked : Marked
 unfolding listed tree-of readListing numberThen rowIn begins lineIn field natural digitsValue lead worstSlack wireLength minℤ delay distance span
 marked = record {
@@ -97,4 +129,10 @@ marked = record {
   A-wire = judged _ (listed (pos 0) 31 (5 ∷ (5 ∷ (4 ∷ (0 ∷ (4 ∷ [])))))) refl;
   ring = judged _ (listed (pos 0) 32 (0 ∷ (4 ∷ (5 ∷ (5 ∷ (4 ∷ [])))))) refl;
   four-children = judged _ (listed (pos 0) 32 (4 ∷ (4 ∷ (4 ∷ (0 ∷ (4 ∷ [])))))) refl;
+  root-format = net-sound textRootNearest rootNearest read-root;
+  root-listing = plan-root;
+  root-judge = root-judged;
+  sink-format = net-sound textNearerSink nearerSink read-sink;
+  sink-listing = plan-sink;
+  sink-judge = sink-judged;
 }

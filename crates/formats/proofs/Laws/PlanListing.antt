@@ -11,7 +11,7 @@ use Rattle.tree.specs.Net.{Net, size}
 use Rattle.tree.specs.Tree.{LegalTree}
 use Rattle.tree.specs.Limits.{positionLimit, needLimit, InRange}
 use Rattle.tree.specs.Measures.{worstSlack, wireLength}
-use Rattle.tree.specs.Planning.{lowest}
+use Rattle.tree.specs.Planning.{tieRule}
 use Rattle.tree.specs.Settling.{plan}
 use Rattle.tree.proofs.Laws.LegalTrees.{somewhere}
 use Rattle.tree.proofs.Laws.Settling.{place-node}
@@ -29,18 +29,18 @@ planned N = record { slack = worstSlack N (plan N); wire = wireLength N (plan N)
 module _ (N : Net) (R : InRange N) where
   pub planned-legal : LegalTree N (plan N)
   unfolding plan
-  planned-legal = plan-legal N (R .branch .0) (R .sinks .0) lowest
+  planned-legal = plan-legal N (R .branch .0) (R .sinks .0) tieRule
 
   pub plan-in-range : ListingInRange (size N) (planned N)
   unfolding plan
   plan-in-range =
       let L : LegalTree N (plan N) = planned-legal in
-      let w : Within needLimit (worstSlack N (plan N)) = slack-range lowest N R in
+      let w : Within needLimit (worstSlack N (plan N)) = slack-range tieRule N R in
       let near : All (PointWithin positionLimit) (plan N .points) =
-      all-of (PointWithin positionLimit) (plan N .points) (N .root) (λ i l. subst (PointWithin positionLimit) (place-node N (plan N) i) (plan-within lowest N R (suc (size N + i)) (omega (arith, L .placed, R .sinks)))) in
+      all-of (PointWithin positionLimit) (plan N .points) (N .root) (λ i l. subst (PointWithin positionLimit) (place-node N (plan N) i) (plan-within tieRule N R (suc (size N + i)) (omega (arith, L .placed, R .sinks)))) in
       record {
         slack = omega (arith, whole);
-        wire = wire-range lowest N R;
+        wire = wire-range tieRule N R;
         sinks = R .sinks;
         parents-all = L .shape .size;
         points-all = L .placed;

@@ -22,7 +22,7 @@ use Rattle.tree.proofs.Laws.Settling.{children-length}
 
 -- ---- the children among the vertices of a list
 
-range-append : (a j k : ℕ) → range a (j + k) ≡ range a j ++ range (a + j) k
+pub range-append : (a j k : ℕ) → range a (j + k) ≡ range a j ++ range (a + j) k
 range-append a zero k =
     let e : a ≡ a + 0 = omega arith in
     let f : 0 + k ≡ k = omega arith in

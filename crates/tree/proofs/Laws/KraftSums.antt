@@ -63,34 +63,50 @@ roomy d e (y ∷ l) = go (roomy d e l) (decLe (suc (d y)) (e y))
     go (inl h) (yes f) = inr (y, omega (arith, delta-self y), f)
     go (inl h) (no f) = inl (λ s q. both h f s q (equal? s y))
 
+-- depths whose sum is exactly 1, whatever they are the depths of
+module _ (S : List ℕ) (d : ℕ → ℕ) (F : ℕ) (deep : AtMost S F d) (exact : powerSum S F d ≡ 2 ^ F) where
+  exact-at : (m : ℕ) → AtMost S m d → powerSum S m d ≡ 2 ^ m
+  exact-at m h = powerSum-eq S m F d h deep exact
+
+  -- each gap has room for the branch points above the sink
+  pub exact-rival : (c : ℕ) (gap : ℕ → ℕ) → 0 < c → ((s : ℕ) → count s S ≢ 0 → d s * c ≤ gap s)
+      → (m : ℕ) → AtMost S m (λ s. gap s / c) → powerSum S m (λ s. gap s / c) ≤ 2 ^ m
+  exact-rival c gap c1 h m u =
+      let le : (s : ℕ) → count s S ≢ 0 → d s ≤ gap s / c = λ s q. le-div-iff-mul-le c1 .1 (h s q) in
+      le-trans (powerSum-mono S m d (λ s. gap s / c) le) (le-of-eq (exact-at m (λ s q. le-trans (le s q) (u s q))))
+
+  -- the attained step: some old sink has room for one more branch point
+  pub exact-room : (c : ℕ) (gap : ℕ → ℕ) (s : ℕ) → 0 < c → Kraft c (s ∷ S) gap → (x : ℕ) × (count x S ≢ 0) × (suc (d x) * c ≤ gap x)
+  exact-room c gap s c1 κ = go (roomy d (λ y. gap y / c) S)
+    where
+      go : ((y : ℕ) → count y S ≢ 0 → gap y / c ≤ d y) ⊎ ((x : ℕ) × (count x S ≢ 0) × (suc (d x) ≤ gap x / c)) → (x : ℕ) × (count x S ≢ 0) × (suc (d x) * c ≤ gap x)
+      go (inl h) =
+          let e : ℕ → ℕ = λ y. gap y / c in
+          let M : ℕ = κ .m + F in
+          let a : powerSum (s ∷ S) M e ≤ 2 ^ M = powerSum-le (s ∷ S) M (κ .m) e (λ y q. omega (arith, κ .at-most y q)) (κ .at-most) (κ .sum-le) in
+          let b : powerSum S M d ≤ powerSum S M e = powerSum-mono S M e d h in
+          let f : powerSum S M d ≡ 2 ^ M = exact-at M (λ y q. omega (arith, deep y q)) in
+          absurd (omega (arith, pow-pos (M - e s)))
+      go (inr r) = (r .0, r .1, le-div-iff-mul-le c1 .0 (r .2))
+
 -- the depth of a vertex of a tree
 abbrev pub depthIn : ℕ → (ℕ → ℕ) → ℕ → ℕ
 depthIn F p v = hops p F (p v)
 
 module _ {N : ℕ} {S : List ℕ} {k F : ℕ} {p : ℕ → ℕ} (t : PartTree N S k F p) where
-  pub kraft-at : (m : ℕ) → AtMost S m (depthIn F p) → powerSum S m (depthIn F p) ≡ 2 ^ m
-  kraft-at m h = powerSum-eq S m F (depthIn F p) h (λ s q. hops-le p F (p s)) (kraft-tree t)
+  deep : AtMost S F (depthIn F p)
+  deep s q = hops-le p F (p s)
 
-  -- the rival bound: a tree whose slacks are all at least σ, so that each gap has room for the branch points above the sink
+  pub kraft-at : (m : ℕ) → AtMost S m (depthIn F p) → powerSum S m (depthIn F p) ≡ 2 ^ m
+  kraft-at = exact-at S (depthIn F p) F deep (kraft-tree t)
+
+  -- the rival bound: a tree whose slacks are all at least σ
   pub rival : (c : ℕ) (gap : ℕ → ℕ) → 0 < c → ((s : ℕ) → count s S ≢ 0 → depthIn F p s * c ≤ gap s)
       → (m : ℕ) → AtMost S m (λ s. gap s / c) → powerSum S m (λ s. gap s / c) ≤ 2 ^ m
-  rival c gap c1 h m u =
-      let le : (s : ℕ) → count s S ≢ 0 → depthIn F p s ≤ gap s / c = λ s q. le-div-iff-mul-le c1 .1 (h s q) in
-      le-trans (powerSum-mono S m (depthIn F p) (λ s. gap s / c) le) (le-of-eq (kraft-at m (λ s q. le-trans (le s q) (u s q))))
+  rival = exact-rival S (depthIn F p) F deep (kraft-tree t)
 
-  -- the attained step: some old sink has room for one more branch point
   pub room : (c : ℕ) (gap : ℕ → ℕ) (s : ℕ) → 0 < c → Kraft c (s ∷ S) gap → (x : ℕ) × (count x S ≢ 0) × (suc (depthIn F p x) * c ≤ gap x)
-  room c gap s c1 κ = go (roomy (depthIn F p) (λ y. gap y / c) S)
-    where
-      go : ((y : ℕ) → count y S ≢ 0 → gap y / c ≤ depthIn F p y) ⊎ ((x : ℕ) × (count x S ≢ 0) × (suc (depthIn F p x) ≤ gap x / c)) → (x : ℕ) × (count x S ≢ 0) × (suc (depthIn F p x) * c ≤ gap x)
-      go (inl h) =
-          let e : ℕ → ℕ = λ y. gap y / c in
-          let M : ℕ = κ .m + F in
-          let a : powerSum (s ∷ S) M e ≤ 2 ^ M = powerSum-le (s ∷ S) M (κ .m) e (λ y q. omega (arith, κ .at-most y q)) (κ .at-most) (κ .sum-le) in
-          let b : powerSum S M (depthIn F p) ≤ powerSum S M e = powerSum-mono S M e (depthIn F p) h in
-          let d : powerSum S M (depthIn F p) ≡ 2 ^ M = kraft-at M (λ y q. omega (arith, hops-le p F (p y))) in
-          absurd (omega (arith, pow-pos (M - e s)))
-      go (inr r) = (r .0, r .1, le-div-iff-mul-le c1 .0 (r .2))
+  room = exact-room S (depthIn F p) F deep (kraft-tree t)
 
 -- Where each old sink has room for its branch points, and x for one more, and the new sink's own slack is no less than that of x,
 -- the tree with the edge to x split has room for all of its sinks

@@ -14,7 +14,7 @@ use Rattle.tree.specs.Net.{delay, ownSlacks}
 use Rattle.tree.specs.Tree.{Legal}
 use Rattle.tree.specs.Measures.{worstSlack, wireLength}
 use Rattle.tree.specs.Kraft.{kraftMaximum, searchDown, IsKraftMaximum}
-use Rattle.tree.specs.Planning.{lowest}
+use Rattle.tree.specs.Planning.{tieRule}
 use Rattle.tree.specs.Settling.{plan, planBy}
 use Rattle.tree.specs.Marked.{netA, oneSink, Marked}
 use Rattle.tree.proofs.Laws.Reach.{legal-reach}
@@ -28,12 +28,12 @@ maximum-A = refl
 best-A : IsKraftMaximum 20 (ownSlacks netA) (pos 0)
 best-A = subst (IsKraftMaximum 20 (ownSlacks netA)) maximum-A (maximum-is 20 _ _ (omega arith))
 
-slack-A : worstSlack netA (planBy lowest netA) ≡ pos 0
-unfolding worstSlack planBy minℤ maxℤ median medianPoint delay distance span
+slack-A : worstSlack netA (planBy tieRule netA) ≡ pos 0
+unfolding worstSlack planBy tieRule minℤ maxℤ median medianPoint delay distance span
 slack-A = refl
 
 slack-one : (c : ℕ) → worstSlack (oneSink c) (plan (oneSink c)) ≡ negℤ (pos 4)
-unfolding worstSlack plan planBy minℤ maxℤ median medianPoint delay distance span
+unfolding worstSlack plan planBy tieRule minℤ maxℤ median medianPoint delay distance span
 slack-one c = rw mul-zero
 
 best-one : (c : ℕ) → IsKraftMaximum c (ownSlacks (oneSink c)) (negℤ (pos 4))
@@ -44,14 +44,14 @@ ring-illegal : Legal 3 (0 ∷ (4 ∷ (5 ∷ (5 ∷ (4 ∷ []))))) → ⊥
 ring-illegal L = omega (arith, legal-reach 3 (0 ∷ (4 ∷ (5 ∷ (5 ∷ (4 ∷ []))))) L 2 (omega arith))
 
 pub marked : Marked
-unfolding worstSlack wireLength plan planBy minℤ maxℤ median medianPoint delay distance span
+unfolding worstSlack wireLength plan planBy tieRule minℤ maxℤ median medianPoint delay distance span
 marked = record {
   A-own = refl;
   A-tree = refl;
   A-slack = refl;
   A-wire = refl;
   A-best = best-A;
-  A-need = λ R L. need-not netA (omega arith) (omega arith) lowest (pos 1) (subst (λ z. z <ℤ pos 1) (sym slack-A) (ltZ-yes tt)) R L;
+  A-need = λ R L. need-not netA (omega arith) (omega arith) tieRule (pos 1) (subst (λ z. z <ℤ pos 1) (sym slack-A) (ltZ-yes tt)) R L;
   three-slack = refl;
   three-wire = refl;
   three-parents = refl;
@@ -59,6 +59,12 @@ marked = record {
   one-wire = λ c. refl;
   one-best = λ c h. best-one c;
   two-slack = refl;
+  nearest-root = refl;
+  nearest-root-slack = refl;
+  nearest-root-wire = refl;
+  nearest-sink = refl;
+  nearest-sink-slack = refl;
+  nearest-sink-wire = refl;
   median-of-three = refl;
   ring-counts = refl;
   ring-unreached = refl;

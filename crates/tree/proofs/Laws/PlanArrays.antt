@@ -1,52 +1,45 @@
 -- What the planner's arrays hold from step to step: ready for insertion, planned, settled. Assumes nothing.
 use Prim.Native.Nat.{ℕ, zero, suc, _*_, _≤_, _<_}
-use mathlib.Core.Path.{_≡_, sym, ap, _∙_, subst}
+use mathlib.Core.Path.{_≡_, refl, sym, ap, _∙_, subst}
 use mathlib.Core.List.{List}
 use native.Mathlib.Omega.{arith}
-use lib.ListN.{length, getD, take}
+use lib.ListN.{length, getD}
 use lib.IntN.{ℤ, pos}
 use Rattle.quantities.specs.Reach.{PointWithin}
 use Rattle.tree.specs.declared.header.Header.{Header}
 use Rattle.tree.specs.Net.{Sink, size, ownSlack}
-use Rattle.tree.specs.Tree.{parentOf, Legal, place}
+use Rattle.tree.specs.Tree.{Legal, place}
 use Rattle.tree.specs.Measures.{wireLength}
-use Rattle.tree.specs.Planning.{order, lowest, planParents}
+use Rattle.tree.specs.Planning.{tieRule, planParents}
 use Rattle.tree.specs.Settling.{settledTree, planBy, plan}
 use Rattle.tree.specs.Limits.{positionLimit, sinkLimit}
-use Rattle.tree.specs.Arrays.{pointAt, netOf, parentsOf, treeOf, Parents, HoldsNet, HoldsTree, Downward}
-use Rattle.tree.specs.Insertion.{Ready}
+use Rattle.tree.specs.Arrays.{pointAt, netOf, parentsOf, treeOf, Parents, HoldsNet, HoldsTree}
+use Rattle.tree.specs.Insertion.{Ready, Placed}
 use Rattle.tree.proofs.Laws.Tables.{table-cong}
-use Rattle.tree.proofs.Laws.Arrays.{size-is, parents-at, place-at}
+use Rattle.tree.proofs.Laws.Arrays.{size-is, parents-at, sink-at, place-at}
 use Rattle.tree.proofs.Laws.Measuring.{branch-is}
 use Rattle.tree.proofs.Laws.Theorem1.{plan-legal}
-use Rattle.tree.proofs.Laws.Downward.{plan-downward}
 use Rattle.tree.proofs.Laws.Limits.{plan-within}
 
 module _ (h : Header) (n : ℕ) (xs ys rs : List ℤ) (held : HoldsNet h n xs ys rs) where
   pub some-few : (1 ≤ n) × (n ≤ sinkLimit)
   some-few = omega (arith, held .in-range .sinks, size-is h n xs ys rs)
 
-  pub ready : (own : List ℤ) (sinks : List ℕ) → n < length own → ((s : ℕ) → 1 ≤ s → s ≤ n → getD own s (pos 0) ≡ ownSlack (netOf h n xs ys rs) s)
-      → n ≤ length sinks → take n sinks ≡ order (netOf h n xs ys rs) → Ready (netOf h n xs ys rs) h n own sinks
-  ready own sinks ol oi sl so = record {
-    in-range = held .in-range;
-    size-is = size-is h n xs ys rs;
-    branch-is = branch-is h n xs ys rs held;
-    own-long = ol;
-    own-is = oi;
-    sinks-long = sl;
-    sinks-are = so;
-  }
+  pub ready : (own : List ℤ) → n < length own → ((s : ℕ) → 1 ≤ s → s ≤ n → getD own s (pos 0) ≡ ownSlack (netOf h n xs ys rs) s) → Ready (netOf h n xs ys rs) (h .branch .0) n own
+  ready own ol oi = record { in-range = held .in-range; size-is = size-is h n xs ys rs; branch-is = branch-is h n xs ys rs held; own-long = ol; own-is = oi }
 
-  plan-shape : Legal (size (netOf h n xs ys rs)) (planParents lowest (netOf h n xs ys rs))
+  pub placed : Placed (netOf h n xs ys rs) n xs ys
+  placed = record { xs-long = held .points .xs-long; ys-long = held .points .ys-long; root-at = refl; sinks-at = λ s s1 sn. sym (sink-at h n xs ys rs s sn) }
+
+  plan-shape : Legal (size (netOf h n xs ys rs)) (planParents tieRule (netOf h n xs ys rs))
   unfolding planBy
-  plan-shape = plan-legal (netOf h n xs ys rs) (held .in-range .branch .0) (held .in-range .sinks .0) lowest .shape
+  plan-shape = plan-legal (netOf h n xs ys rs) (held .in-range .branch .0) (held .in-range .sinks .0) tieRule .shape
 
   -- ---- the parents are the plan's
 
-  module _ (ps : List ℕ) (long : 2 * n ≤ length ps) (planned : parentsOf n ps ≡ planParents lowest (netOf h n xs ys rs)) where
+  module _ (ps : List ℕ) (long : 2 * n ≤ length ps) (planned : parentsOf n ps ≡ planParents tieRule (netOf h n xs ys rs)) where
     pub planned-legal : Legal n (parentsOf n ps)
-    planned-legal = subst (λ P. Legal n P) (sym planned) (subst (λ m. Legal m (planParents lowest (netOf h n xs ys rs))) (size-is h n xs ys rs) plan-shape)
+    planned-legal = subst (λ P. Legal n P) (sym planned) (subst (λ m. Legal m (planParents tieRule (netOf h n xs ys rs))) (size-is h n xs ys rs) plan-shape)
 
     pub planned-parents : Parents n ps
     planned-parents = record { some = some-few .0; few = some-few .1; long = long; inside = inside }
@@ -54,13 +47,6 @@ module _ (h : Header) (n : ℕ) (xs ys rs : List ℤ) (held : HoldsNet h n xs ys
         inside : (v : ℕ) → 1 ≤ v → v < 2 * n → getD ps v 0 < 2 * n
         inside zero g l = absurd (omega arith)
         inside (suc i) g l = omega (arith, planned-legal .inside i (omega (arith, planned-legal .size)), parents-at n ps (suc i) g l)
-
-    pub planned-down : Downward n ps
-    planned-down b g l =
-        let e : getD ps b 0 ≡ parentOf (planParents lowest (netOf h n xs ys rs)) b = sym (parents-at n ps b (omega arith) l) ∙ ap (λ P. parentOf P b) planned in
-        let d : parentOf (planParents lowest (netOf h n xs ys rs)) b < b =
-        plan-downward (netOf h n xs ys rs) (held .in-range .branch .0) (held .in-range .sinks .0) b (omega (arith, size-is h n xs ys rs)) (omega (arith, size-is h n xs ys rs)) in
-        omega arith
 
     -- ---- the branch points are settled, and the root and the sinks stand as before
 
@@ -92,7 +78,7 @@ module _ (h : Header) (n : ℕ) (xs ys rs : List ℤ) (held : HoldsNet h n xs ys
               subst
               (PointWithin positionLimit)
               (sym (λ i. place (planned-net i) (planned-tree i) v) ∙ place-at h n xs′ ys′ rs ps v l)
-              (plan-within lowest (netOf h n xs ys rs) (held .in-range) v (omega (arith, size-is h n xs ys rs)))
+              (plan-within tieRule (netOf h n xs ys rs) (held .in-range) v (omega (arith, size-is h n xs ys rs)))
 
       pub planned-wire : (w : ℕ) → w ≡ wireLength (netOf h n xs′ ys′ rs) (treeOf n ps xs′ ys′) → w ≡ wireLength (netOf h n xs ys rs) (plan (netOf h n xs ys rs))
       planned-wire w e = e ∙ (λ i. wireLength (planned-net i) (planned-tree i))

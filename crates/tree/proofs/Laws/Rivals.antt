@@ -38,7 +38,7 @@ pub record KraftOver (c : ℕ) (S : List ℕ) (own : ℕ → ℤ) (σ : ℤ) : T
   pub kraft : Kraft c S (λ s. gap σ (own s))
 
 -- an m that is large enough
-enough : (c : ℕ) (S : List ℕ) (g : ℕ → ℕ) → ((m : ℕ) → AtMost S m (λ s. g s / c) → powerSum S m (λ s. g s / c) ≤ 2 ^ m) → Kraft c S g
+pub enough : (c : ℕ) (S : List ℕ) (g : ℕ → ℕ) → ((m : ℕ) → AtMost S m (λ s. g s / c) → powerSum S m (λ s. g s / c) ≤ 2 ^ m) → Kraft c S g
 enough c S g h =
     let u : AtMost S (sumOver S (λ s. g s / c)) (λ s. g s / c) = sumOver-member S (λ s. g s / c) in
     record { m = sumOver S (λ s. g s / c); at-most = u; sum-le = h (sumOver S (λ s. g s / c)) u }
@@ -79,7 +79,7 @@ Attains c S o F p = (σ : ℤ) → KraftOver c S o σ → (y : ℕ) → count y 
 abbrev pub NoWorse : (c : ℕ) (S : List ℕ) (o : ℕ → ℤ) (F : ℕ) (p p′ : ℕ → ℕ) → Type 0
 NoWorse c S o F p p′ = (σ : ℤ) → ((y : ℕ) → count y S ≢ 0 → σ ≤ℤ (o y -ℤ pos (depthIn F p y * c))) → (y : ℕ) → count y S ≢ 0 → σ ≤ℤ (o y -ℤ pos (depthIn F p′ y * c))
 
-kraft-over-less : (c : ℕ) (S : List ℕ) (o : ℕ → ℤ) (s : ℕ) (σ : ℤ) → KraftOver c (s ∷ S) o σ → KraftOver c S o σ
+pub kraft-over-less : (c : ℕ) (S : List ℕ) (o : ℕ → ℤ) (s : ℕ) (σ : ℤ) → KraftOver c (s ∷ S) o σ → KraftOver c S o σ
 kraft-over-less c S o s σ h = record {
   low = λ y q. h .low y (omega arith);
   kraft = record { m = h .kraft .m; at-most = λ y q. h .kraft .at-most y (omega arith); sum-le = omega (arith, h .kraft .sum-le) };

@@ -1,4 +1,4 @@
--- Settling by falling number: each step settles one branch point more. Assumes nothing.
+-- Settling from the leaves up: each step settles one vertex more. Assumes nothing.
 use Prim.Native.Nat.{ℕ, zero, suc, _+_, _*_, _-_, _≤_, _<_}
 use mathlib.Core.Path.{_≡_, refl, sym, ap, ap₂, _∙_, subst}
 use mathlib.Core.Logic.{_≢_, _⊎_, inl, inr}
@@ -15,22 +15,22 @@ use Rattle.tree.specs.Lists.{range}
 use Rattle.tree.specs.Net.{Net, size}
 use Rattle.tree.specs.Tree.{Tree, parentOf, Legal, place}
 use Rattle.tree.specs.Settling.{children, settled, settledTree}
-use Rattle.tree.specs.Arrays.{pointAt, parentsOf, netOf, treeOf, medianAt, Downward}
+use Rattle.tree.specs.Arrays.{pointAt, parentsOf, netOf, treeOf, medianAt, LeavesUp, Below}
 use Rattle.tree.proofs.Laws.Tables.{table-cong}
 use Rattle.tree.proofs.Laws.Arrays.{parents-at, size-is, sink-at}
 use Rattle.tree.proofs.Laws.Children.{Holds}
-use Rattle.tree.proofs.Laws.Downward.{settled-median}
+use Rattle.tree.proofs.Laws.Medians.{settled-median}
 use Rattle.tree.proofs.Laws.Measures.{place-sink}
 use Rattle.tree.proofs.Laws.Settling.{child-of, at-settled}
 use Rattle.tree.proofs.Laws.Sums.{equal?}
 
--- the root and the sinks stand as at the start, the branch points from b on where they settle
-pub record Settled (n : ℕ) (ps : List ℕ) (xs₀ ys₀ : List ℤ) (b : ℕ) (xs ys : List ℤ) : Type 0 where
+-- the root and the sinks stand as at the start, the branch points at the first i places of the order where they settle
+pub record Settled (n : ℕ) (ps us : List ℕ) (xs₀ ys₀ : List ℤ) (i : ℕ) (xs ys : List ℤ) : Type 0 where
   pub xs-length : length xs ≡ length xs₀
   pub ys-length : length ys ≡ length ys₀
   pub kept : (v : ℕ) → v ≤ n → pointAt xs ys v ≡ pointAt xs₀ ys₀ v
-  pub done : (h : Header) (rs : List ℤ) (v : ℕ) → n < v → b ≤ v → v < 2 * n
-      → pointAt xs ys v ≡ place (netOf h n xs₀ ys₀ rs) (settledTree (netOf h n xs₀ ys₀ rs) (parentsOf n ps)) v
+  pub done : (h : Header) (rs : List ℤ) (j : ℕ) → j < i → n < getD us j 0
+      → pointAt xs ys (getD us j 0) ≡ place (netOf h n xs₀ ys₀ rs) (settledTree (netOf h n xs₀ ys₀ rs) (parentsOf n ps)) (getD us j 0)
 
 -- ---- one branch point
 
@@ -66,17 +66,20 @@ module _ (n : ℕ) (ps : List ℕ) (L : Legal n (parentsOf n ps)) (xs₀ ys₀ :
   sink-place (suc i) l = place-sink N T (suc i) (omega arith) (omega (arith, size-is h n xs₀ ys₀ rs)) ∙ sink-at h n xs₀ ys₀ rs (suc i) l
 
   -- the children of b stand where they settle, so their median with the root is where b settles
-  median-place : Downward n ps → (b : ℕ) (kids : List ℕ) (xs ys : List ℤ) → n < b → b < 2 * n → Holds kids b (children P b)
-      → ((v : ℕ) → v ≤ n → pointAt xs ys v ≡ pointAt xs₀ ys₀ v) → ((v : ℕ) → n < v → b < v → v < 2 * n → pointAt xs ys v ≡ place N T v)
+  median-place : (us : List ℕ) → LeavesUp (Below n) (2 * n - 1) ps us → (i b : ℕ) (kids : List ℕ) (xs ys : List ℤ) → i < 2 * n - 1 → b ≡ getD us i 0 → n < b → b < 2 * n → Holds kids b (children P b)
+      → ((v : ℕ) → v ≤ n → pointAt xs ys v ≡ pointAt xs₀ ys₀ v) → ((j : ℕ) → j < i → n < getD us j 0 → pointAt xs ys (getD us j 0) ≡ place N T (getD us j 0))
       → medianAt xs ys kids b ≡ place N T b
-  median-place D b kids xs ys bn b2 holds kept done =
+  median-place us U i b kids xs ys il bi bn b2 holds kept done =
       let e : medianPoint (pointAt xs₀ ys₀ 0) (place N T (getD (children P b) 0 0)) (place N T (getD (children P b) 1 0)) ≡ place N T b
       = sym (settled-median N P legal b (omega (arith, size-is h n xs₀ ys₀ rs)) (omega (arith, size-is h n xs₀ ys₀ rs))) in
       (λ i. medianPoint (kept 0 (omega arith) i) (at (getD kids (2 * b) 0) 0 (holds .0) (omega arith) i) (at (getD kids (2 * b + 1) 0) 1 (holds .1) (omega arith) i)) ∙ e
     where
       stands : (c : ℕ) → (parentOf P c ≡ b) × (1 ≤ c) × (c < 2 * n) → Dec (c ≤ n) → pointAt xs ys c ≡ place N T c
       stands c r (yes q) = kept c q ∙ sym (sink-place c q)
-      stands c r (no q) = done c (omega arith) (omega (arith, D c (omega arith) (r .2), parents-at n ps c (r .1) (r .2), r .0)) (r .2)
+      stands c r (no q) =
+          let w : (j : ℕ) × (j < 2 * n - 1) × (getD us j 0 ≡ c) = U .all c (r .1, r .2) in
+          let e : getD ps (getD us (w .0) 0) 0 ≡ getD us i 0 = ap (λ (z : ℕ). getD ps z 0) (w .2) ∙ sym (parents-at n ps c (r .1) (r .2)) ∙ r .0 ∙ bi in
+          subst (λ (z : ℕ). pointAt xs ys z ≡ place N T z) (w .2) (done (w .0) (U .before (w .0) i (w .1) il e) (omega (arith, w .2)))
 
       at : (k i : ℕ) → k ≡ getD (children P b) i 0 → i < 2 → pointAt xs ys k ≡ place N T (getD (children P b) i 0)
       at k i e q =
@@ -98,33 +101,61 @@ module _ (n : ℕ) (ps : List ℕ) (L : Legal n (parentsOf n ps)) (xs₀ ys₀ :
 pub children-in : (n : ℕ) (P : List ℕ) → Legal n P → (b : ℕ) (kids : List ℕ) → n < b → b < 2 * n → Holds kids b (children P b) → (getD kids (2 * b) 0 < 2 * n) × (getD kids (2 * b + 1) 0 < 2 * n)
 children-in n P L b kids bn b2 holds = (omega (arith, holds .0, child-of n P L b 0 bn b2 (omega arith) .2), omega (arith, holds .1, child-of n P L b 1 bn b2 (omega arith) .2))
 
-module _ (n : ℕ) (ps : List ℕ) (xs₀ ys₀ : List ℤ) where
-  pub settled-none : Settled n ps xs₀ ys₀ (2 * n) xs₀ ys₀
-  settled-none = record { xs-length = refl; ys-length = refl; kept = λ v l. refl; done = λ h rs v p q l. absurd (omega arith) }
+module _ (n : ℕ) (ps us : List ℕ) (xs₀ ys₀ : List ℤ) where
+  pub settled-none : Settled n ps us xs₀ ys₀ 0 xs₀ ys₀
+  settled-none = record { xs-length = refl; ys-length = refl; kept = λ v l. refl; done = λ h rs j p q. absurd (omega arith) }
 
-  pub settled-step : Legal n (parentsOf n ps) → Downward n ps → (a b : ℕ) (kids : List ℕ) (xs ys xs′ ys′ : List ℤ) → a ≡ suc b → n < b → b < 2 * n → 2 * n ≤ length xs₀ → 2 * n ≤ length ys₀ → Holds kids b (children (parentsOf n ps) b)
+  -- a sink stands already
+  pub settled-sink : (i : ℕ) (xs ys xs′ ys′ : List ℤ) → getD us i 0 ≤ n → xs′ ≡ xs → ys′ ≡ ys → Settled n ps us xs₀ ys₀ i xs ys → Settled n ps us xs₀ ys₀ (i + 1) xs′ ys′
+  settled-sink i xs ys xs′ ys′ low ex ey s = record {
+    xs-length = ap length ex ∙ s .xs-length;
+    ys-length = ap length ey ∙ s .ys-length;
+    kept = λ v l. same v ∙ s .kept v l;
+    done = λ h rs j p q. same (getD us j 0) ∙ s .done h rs j (other j p q (equal? j i)) q;
+  }
+    where
+      same : (v : ℕ) → pointAt xs′ ys′ v ≡ pointAt xs ys v
+      same v = ap₂ (λ l r. pointAt l r v) ex ey
+
+      other : (j : ℕ) → j < i + 1 → n < getD us j 0 → (j ≡ i) ⊎ (j ≢ i) → j < i
+      other j p q (inl e) = absurd (omega (arith, ap (λ (z : ℕ). getD us z 0) e))
+      other j p q (inr d) = omega arith
+
+  pub settled-step : Legal n (parentsOf n ps) → LeavesUp (Below n) (2 * n - 1) ps us → (i b : ℕ) (kids : List ℕ) (xs ys xs′ ys′ : List ℤ) → i < 2 * n - 1 → b ≡ getD us i 0 → n < b → 2 * n ≤ length xs₀ → 2 * n ≤ length ys₀ → Holds kids b (children (parentsOf n ps) b)
       → xs′ ≡ set xs b (medianAt xs ys kids b .x) → ys′ ≡ set ys b (medianAt xs ys kids b .y)
-      → Settled n ps xs₀ ys₀ a xs ys → Settled n ps xs₀ ys₀ b xs′ ys′
-  settled-step L D a b kids xs ys xs′ ys′ ab bn b2 xl yl holds ex ey s = record {
+      → Settled n ps us xs₀ ys₀ i xs ys → Settled n ps us xs₀ ys₀ (i + 1) xs′ ys′
+  settled-step L U i b kids xs ys xs′ ys′ il bi bn xl yl holds ex ey s = record {
     xs-length = ap length ex ∙ simp length-set (s .xs-length);
     ys-length = ap length ey ∙ simp length-set (s .ys-length);
     kept = λ v l. other v (omega arith) ∙ s .kept v l;
-    done = λ h rs v p q l. go h rs v p q l (equal? v b);
+    done = λ h rs j p q. go h rs j p q (equal? (getD us j 0) b);
   }
     where
+      b2 : b < 2 * n
+      b2 = omega (arith, bi, U .inside i il .1)
+
       stores : (v : ℕ) → pointAt xs′ ys′ v ≡ pointAt (set xs b (medianAt xs ys kids b .x)) (set ys b (medianAt xs ys kids b .y)) v
       stores v = ap₂ (λ l r. pointAt l r v) ex ey
 
       other : (v : ℕ) → v ≢ b → pointAt xs′ ys′ v ≡ pointAt xs ys v
       other v d = stores v ∙ unstored xs ys b (medianAt xs ys kids b) v d
 
-      go : (h : Header) (rs : List ℤ) (v : ℕ) → n < v → b ≤ v → v < 2 * n → (v ≡ b) ⊎ (v ≢ b)
-          → pointAt xs′ ys′ v ≡ place (netOf h n xs₀ ys₀ rs) (settledTree (netOf h n xs₀ ys₀ rs) (parentsOf n ps)) v
-      go h rs v p q l (inl e) =
+      go : (h : Header) (rs : List ℤ) (j : ℕ) → j < i + 1 → n < getD us j 0 → (getD us j 0 ≡ b) ⊎ (getD us j 0 ≢ b)
+          → pointAt xs′ ys′ (getD us j 0) ≡ place (netOf h n xs₀ ys₀ rs) (settledTree (netOf h n xs₀ ys₀ rs) (parentsOf n ps)) (getD us j 0)
+      go h rs j p q (inl e) =
           subst (λ z. pointAt xs′ ys′ z ≡ place (netOf h n xs₀ ys₀ rs) (settledTree (netOf h n xs₀ ys₀ rs) (parentsOf n ps)) z) (sym e)
-          (stores b ∙ stored xs ys b (medianAt xs ys kids b) (omega (arith, s .xs-length)) (omega (arith, s .ys-length))
-          ∙ median-place n ps L xs₀ ys₀ h rs D b kids xs ys bn b2 holds (s .kept) (λ v p q l. s .done h rs v p (omega arith) l))
-      go h rs v p q l (inr d) = other v d ∙ s .done h rs v p (omega arith) l
+          (stores b ∙ stored xs ys b (medianAt xs ys kids b) (omega (arith, b2, s .xs-length)) (omega (arith, b2, s .ys-length))
+          ∙ median-place n ps L xs₀ ys₀ h rs us U i b kids xs ys il bi bn b2 holds (s .kept) (λ j p q. s .done h rs j p q))
+      go h rs j p q (inr d) = other (getD us j 0) d ∙ s .done h rs j (before (equal? j i)) q
+        where
+          before : (j ≡ i) ⊎ (j ≢ i) → j < i
+          before (inl e) = absurd (d (ap (λ (z : ℕ). getD us z 0) e ∙ sym bi))
+          before (inr e) = omega arith
 
-  pub settled-all : Legal n (parentsOf n ps) → (b : ℕ) (xs ys : List ℤ) → b ≤ suc n → Settled n ps xs₀ ys₀ b xs ys → (h : Header) (rs : List ℤ) → treeOf n ps xs ys ≡ settledTree (netOf h n xs₀ ys₀ rs) (parentsOf n ps)
-  settled-all L b xs ys q s h rs = tree-is n ps L xs₀ ys₀ h rs xs ys (λ v p l. s .done h rs v p (omega arith) l)
+  pub settled-all : Legal n (parentsOf n ps) → LeavesUp (Below n) (2 * n - 1) ps us → (i : ℕ) (xs ys : List ℤ) → 2 * n - 1 ≤ i → Settled n ps us xs₀ ys₀ i xs ys → (h : Header) (rs : List ℤ) → treeOf n ps xs ys ≡ settledTree (netOf h n xs₀ ys₀ rs) (parentsOf n ps)
+  settled-all L U i xs ys q s h rs = tree-is n ps L xs₀ ys₀ h rs xs ys all
+    where
+      all : (v : ℕ) → n < v → v < 2 * n → pointAt xs ys v ≡ place (netOf h n xs₀ ys₀ rs) (settledTree (netOf h n xs₀ ys₀ rs) (parentsOf n ps)) v
+      all v p l =
+          let w : (j : ℕ) × (j < 2 * n - 1) × (getD us j 0 ≡ v) = U .all v (omega arith, l) in
+          subst (λ z. pointAt xs ys z ≡ place (netOf h n xs₀ ys₀ rs) (settledTree (netOf h n xs₀ ys₀ rs) (parentsOf n ps)) z) (w .2) (s .done h rs (w .0) (omega (arith, w .1)) (omega (arith, w .2)))

@@ -2,16 +2,11 @@
 use mathlib.Core.Path.{_≡_, refl, sym, ap, _∙_, subst}
 use mathlib.Core.Logic.{_≢_, _⊎_, inl, inr}
 use mathlib.Core.List.{List, [], _∷_}
-use Prim.Native.Nat.{ℕ, zero, suc, _+_, _*_, _≤_, _<_}
-use native.Mathlib.Nat.{le-trans, mul-le-mul-right}
+use Prim.Native.Nat.{ℕ, zero, suc, _+_, _<_}
 use native.Mathlib.Omega.{arith}
-use lib.IntN.{ℤ, pos, _-ℤ_}
-use lib.Signed.{_≤ℤ_}
-use Rattle.tree.proofs.Laws.AnySplit.{meet, depth-any}
-use Rattle.tree.proofs.Laws.Gaps.{gap, fits, fits-back, gap-mono, gap-sub}
-use Rattle.tree.proofs.Laws.Growing.{PartTree, Split, hops-up, split-tree}
-use Rattle.tree.proofs.Laws.KraftSums.{depthIn, split-room}
-use Rattle.tree.proofs.Laws.Rivals.{NoWorse}
+use lib.IntN.{pos}
+use Rattle.tree.proofs.Laws.AnySplit.{meet}
+use Rattle.tree.proofs.Laws.Growing.{PartTree, hops-up}
 use Rattle.tree.proofs.Laws.Sums.{delta-self, delta-ne, equal?, down-in}
 use Rattle.tree.proofs.Laws.Walks.{hops, hops-le}
 use Rattle.tree.specs.Lists.{sumOver, delta, count, down}
@@ -31,7 +26,7 @@ delta-eq zero (suc y) h = absurd (h refl)
 delta-eq (suc x) zero h = absurd (h refl)
 delta-eq (suc x) (suc y) h = ap suc (delta-eq x y h)
 
-meet-next : (p : ℕ → ℕ) (j u z : ℕ) → meet p j u z ≢ 0 → meet p (suc j) (p u) z ≢ 0
+pub meet-next : (p : ℕ → ℕ) (j u z : ℕ) → meet p j u z ≢ 0 → meet p (suc j) (p u) z ≢ 0
 meet-next p zero u z h = absurd (h refl)
 meet-next p (suc j) u z h = go (meet-next p j u (p z)) (equal? u z)
   where
@@ -39,7 +34,7 @@ meet-next p (suc j) u z h = go (meet-next p j u (p z)) (equal? u z)
     go ih (inl e) = rw e (omega (arith, delta-self (p z)))
     go ih (inr d) = omega (arith, ih (omega (arith, delta-ne u z d)))
 
-meet-stable : (p : ℕ → ℕ) (j v z : ℕ) → v ≢ 0 → ancestor p j z ≡ 0 → meet p (suc j) v z ≡ meet p j v z
+pub meet-stable : (p : ℕ → ℕ) (j v z : ℕ) → v ≢ 0 → ancestor p j z ≡ 0 → meet p (suc j) v z ≡ meet p j v z
 meet-stable p zero v z h r = rw r (omega (arith, delta-ne v 0 h))
 meet-stable p (suc j) v z h r = ap (_+_ (delta v z)) (meet-stable p j v (p z) h r)
 
@@ -70,7 +65,7 @@ module _ {N : ℕ} {S : List ℕ} {k F : ℕ} {p : ℕ → ℕ} (t : PartTree N 
           (r .0, omega (arith, r .1), sym (delta-eq v (p (r .0)) (r .2)))
 
   -- each vertex has a sink at or below it
-  sink-below : (g v : ℕ) → count v S + count v (down N k) ≢ 0 → F < hops p F v + g → (z : ℕ) × (count z S ≢ 0) × (meet p F v z ≢ 0)
+  pub sink-below : (g v : ℕ) → count v S + count v (down N k) ≢ 0 → F < hops p F v + g → (z : ℕ) × (count z S ≢ 0) × (meet p F v z ≢ 0)
   sink-below zero v m l = absurd (omega (arith, hops-le p F v))
   sink-below (suc g) v m l = go (sink-below g) (equal? (count v S) 0)
     where
@@ -83,37 +78,3 @@ module _ {N : ℕ} {S : List ℕ} {k F : ℕ} {p : ℕ → ℕ} (t : PartTree N 
           let n : meet p (suc F) v (r .0) ≢ 0 = subst (λ w. meet p (suc F) w (r .0) ≢ 0) (u .2) (meet-next p F (u .0) (r .0) (r .2)) in
           (r .0, r .1, λ q. n (meet-stable p F v (r .0) (in-pos v m) (t .reach (r .0) (omega (arith, r .1))) ∙ q))
       go ih (inr d) = (v, d, meet-self p F v (in-pos v m) (t .reach v m))
-
-  -- the slack of x is largest among the sinks: no split leaves a better worst slack than that of the edge to x
-  module _ {s x v : ℕ} {p′ p″ : ℕ → ℕ} (o : ℕ → ℤ) (c : ℕ) (sx : count x S ≢ 0) (mv : count v S + count v (down N k) ≢ 0)
-      (s1 : 1 ≤ s) (sN : s ≤ N) (fresh : count s S ≡ 0) (cv : Split N k s v p p′) (cx : Split N k s x p p″) (rise : o x ≤ℤ o s)
-      (largest : (y : ℕ) → count y S ≢ 0 → (o y -ℤ pos (depthIn F p y * c)) ≤ℤ (o x -ℤ pos (depthIn F p x * c))) where
-    -- the depths after the split of the edge to v
-    deeper : (y : ℕ) → count y S ≢ 0 → depthIn (suc (suc F)) p′ y ≡ depthIn F p y + meet p F v y
-    deeper y m =
-        let i : count y S + count y (down N k) ≢ 0 = omega arith in
-        let t′ : PartTree N (s ∷ S) (suc k) (suc (suc F)) p′ = split-tree t cv mv s1 sN fresh in
-        omega (arith, depth-any t cv mv s1 sN fresh y i, hops-up p F y (in-pos y i) (t .reach y i), hops-up p′ (suc (suc F)) y (in-pos y i) (t′ .reach y (omega arith)))
-
-    pub choice : NoWorse c (s ∷ S) o (suc (suc F)) p′ p″
-    choice σ h y m =
-        fits-back σ (o y) (depthIn (suc (suc F)) p″ y * c) (fits σ (o y) (depthIn (suc (suc F)) p′ y * c) (h y m) .0)
-        (split-room t cx sx s1 sN fresh c (λ z. gap σ (o z)) old room-x (gap-mono σ (o x) (o s) (old-all x sx .0) rise .1) y m)
-      where
-        old-all : (z : ℕ) → count z S ≢ 0 → (σ ≤ℤ o z) × ((depthIn F p z + meet p F v z) * c ≤ gap σ (o z))
-        old-all z q = let f : (σ ≤ℤ o z) × (depthIn (suc (suc F)) p′ z * c ≤ gap σ (o z)) = fits σ (o z) (depthIn (suc (suc F)) p′ z * c) (h z (omega arith)) in (f .0, rw (deeper z q) at (f .1))
-
-        old : (z : ℕ) → count z S ≢ 0 → depthIn F p z * c ≤ gap σ (o z)
-        old z q = omega (arith, old-all z q .1)
-
-        room-x : suc (depthIn F p x) * c ≤ gap σ (o x)
-        room-x =
-            let b : (z : ℕ) × (count z S ≢ 0) × (meet p F v z ≢ 0) = sink-below (suc F) v mv (omega arith) in
-            let z : ℕ = b .0 in
-            let a : (σ ≤ℤ o z) × ((depthIn F p z + meet p F v z) * c ≤ gap σ (o z)) = old-all z (b .1) in
-            let l : suc (depthIn F p z) * c ≤ gap σ (o z) = le-trans (mul-le-mul-right c (omega (arith, b .2))) (a .1) in
-            let u : σ ≤ℤ (o z -ℤ pos (depthIn F p z * c)) = fits-back σ (o z) (depthIn F p z * c) (a .0) (omega arith) in
-            let g : (σ ≤ℤ (o x -ℤ pos (depthIn F p x * c))) × (gap σ (o z -ℤ pos (depthIn F p z * c)) ≤ gap σ (o x -ℤ pos (depthIn F p x * c))) =
-            gap-mono σ (o z -ℤ pos (depthIn F p z * c)) (o x -ℤ pos (depthIn F p x * c)) u (largest z (b .1)) in
-            let f : (σ ≤ℤ o x) × (depthIn F p x * c ≤ gap σ (o x)) = fits σ (o x) (depthIn F p x * c) (g .0) in
-            omega (arith, gap-sub σ (o z) (depthIn F p z * c) (a .0) (omega arith), gap-sub σ (o x) (depthIn F p x * c) (f .0) (f .1))

@@ -10,7 +10,7 @@ use Rattle.tree.specs.Net.{Net, size, ownSlacks}
 use Rattle.tree.specs.Tree.{Tree, LegalTree}
 use Rattle.tree.specs.Measures.{worstSlack}
 use Rattle.tree.specs.Kraft.{kraftMaximum}
-use Rattle.tree.specs.Planning.{lowest}
+use Rattle.tree.specs.Planning.{tieRule}
 use Rattle.tree.specs.Settling.{plan, planBy}
 use Rattle.tree.specs.Limits.{needLimit, InRange}
 use Rattle.tree.specs.Theorem1.{Theorem1}
@@ -21,15 +21,15 @@ use Rattle.tree.proofs.Laws.Limits.{slack-range}
 
 module _ (N : Net) (c1 : 1 ≤ N .branch) (n1 : 1 ≤ size N) where
   bounded : (R : Tree) → LegalTree N R → worstSlack N R ≤ℤ kraftMaximum (N .branch) (ownSlacks N)
-  bounded R L = subst (λ z. worstSlack N R ≤ℤ z) (sym (plan-computed N c1 n1 lowest)) (plan-best N c1 n1 lowest R L)
+  bounded R L = subst (λ z. worstSlack N R ≤ℤ z) (sym (plan-computed N c1 n1 tieRule)) (plan-best N c1 n1 tieRule R L)
 
   attained : worstSlack N (plan N) ≡ kraftMaximum (N .branch) (ownSlacks N)
   unfolding plan
-  attained = sym (plan-computed N c1 n1 lowest)
+  attained = sym (plan-computed N c1 n1 tieRule)
 
   legal : LegalTree N (plan N)
   unfolding plan
-  legal = plan-legal N c1 n1 lowest
+  legal = plan-legal N c1 n1 tieRule
 
   unreachable : (t : ℤ) → (kraftMaximum (N .branch) (ownSlacks N) <ℤ t) ↔ ((R : Tree) → LegalTree N R → worstSlack N R <ℤ t)
   unreachable t = (
@@ -45,10 +45,10 @@ module _ (N : Net) (c1 : 1 ≤ N .branch) (n1 : 1 ≤ size N) where
     legal = legal;
     attained = attained;
     unreachable = unreachable;
-    insertions = kraft-sum N c1 n1 lowest;
+    insertions = kraft-sum N c1 n1 tieRule;
     settling = λ P L s p q. settling N P L s p q;
   }
 
--- "The lowest t is always reachable."
+-- "The tieRule t is always reachable."
 pub lowest-need-reached : (N : Net) → InRange N → (R : Tree) × (LegalTree N R × (negℤ (pos needLimit) ≤ℤ worstSlack N R))
-lowest-need-reached N R = (planBy lowest N, (plan-legal N (R .branch .0) (R .sinks .0) lowest, slack-range lowest N R .0))
+lowest-need-reached N R = (planBy tieRule N, (plan-legal N (R .branch .0) (R .sinks .0) tieRule, slack-range tieRule N R .0))

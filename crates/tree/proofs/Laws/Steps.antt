@@ -41,6 +41,14 @@ newest-each l P (suc j) h y m = go (newest-each l P j (λ i q. h i (omega arith)
     go ih (inl e) = subst P (sym e) (h j (omega arith))
     go ih (inr d) = ih (omega (arith, delta-ne y (getD l j 0) d))
 
+pub newest-member : (l : List ℕ) (j i : ℕ) → i < j → count (getD l i 0) (newestFirst l j) ≢ 0
+newest-member l zero i h = absurd (omega arith)
+newest-member l (suc j) i h = go (λ q. newest-member l j i q) (equal? i j)
+  where
+    go : (i < j → count (getD l i 0) (newestFirst l j) ≢ 0) → (i ≡ j) ⊎ (i ≢ j) → count (getD l i 0) (newestFirst l (suc j)) ≢ 0
+    go ih (inl e) = subst (λ (z : ℕ). count (getD l z 0) (newestFirst l (suc j)) ≢ 0) (sym e) (omega (arith, delta-self (getD l j 0)))
+    go ih (inr d) = omega (arith, ih (omega arith))
+
 rising-at : (o : ℕ → ℤ) (l : List ℕ) → Rising o l → (i j : ℕ) → i < j → j < length l → o (getD l i 0) ≤ℤ o (getD l j 0)
 rising-at o [] r i j h k = absurd (omega arith)
 rising-at o (x ∷ l) r i zero h k = absurd (omega arith)

@@ -21,11 +21,11 @@ use Rattle.tree.proofs.Laws.Sums.{equal?, delta-self, delta-ne}
 use Rattle.tree.proofs.Laws.Walks.{hops, hops-stable}
 use Rattle.tree.specs.Lists.{delta, count, down}
 use Rattle.tree.specs.Net.{Net, size, ownSlack}
-use Rattle.tree.specs.Planning.{split, worstAfter, lowest}
+use Rattle.tree.specs.Planning.{split, worstAfter, tieRule}
 use Rattle.tree.specs.Tree.{parentOf}
 
 -- u is the least of f over those of the list that have v on their way up
-pub record LeastUnder (p : ℕ → ℕ) (F v : ℕ) (S : List ℕ) (f : ℕ → ℤ) (u : ℤ) : Type 0 where
+pub record LeastBelow (p : ℕ → ℕ) (F v : ℕ) (S : List ℕ) (f : ℕ → ℤ) (u : ℤ) : Type 0 where
   pub below : (y : ℕ) → count y S ≢ 0 → meet p F v y ≢ 0 → u ≤ℤ f y
   pub at : ℕ
   pub in-list : count at S ≢ 0
@@ -144,8 +144,8 @@ module _ (N : Net) (c1 : 0 < N .branch) {z : ℕ} {S : List ℕ} {k : ℕ} {P : 
     pub after-new : before N (suc k) (split P (size N) k s x) s ≡ ownSlack N s -ℤ pos (suc (depthIn (2 * k + 1) (parentOf P) x) * N .branch)
     after-new = ap (λ i. ownSlack N s -ℤ pos (i * N .branch)) (ap (λ i. depthIn i (parentOf (split P (size N) k s x)) s) more ∙ new-depth (g .tree) cut hx s1 sN fresh)
 
-    pub worst-closed : (a u : ℤ) → Least (z ∷ S) (before N k P) a → LeastUnder (parentOf P) (2 * k + 1) x (z ∷ S) (before N k P) u
+    pub worst-closed : (a u : ℤ) → Least (z ∷ S) (before N k P) a → LeastBelow (parentOf P) (2 * k + 1) x (z ∷ S) (before N k P) u
         → worstAfter N (z ∷ S) k P s x ≡ minℤ (minℤ a (u -ℤ pos (N .branch))) (ownSlack N s -ℤ pos (suc (depthIn (2 * k + 1) (parentOf P) x) * N .branch))
     worst-closed a u l r =
-        least-one (s ∷ (z ∷ S)) (before N (suc k) (split P (size N) k s x)) _ _ (after-is lowest N c1 g s s1 sN fresh kN rising x hx)
+        least-one (s ∷ (z ∷ S)) (before N (suc k) (split P (size N) k s x)) _ _ (after-is tieRule N c1 g s s1 sN fresh kN rising x hx)
         (closed (z ∷ S) s (N .branch) (meet (parentOf P) (2 * k + 1) x) (before N k P) (before N (suc k) (split P (size N) k s x)) a u _ c1 once after-old after-new l (r .below) (r .at) (r .in-list) (r .under) (r .is))

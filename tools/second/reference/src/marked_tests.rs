@@ -76,6 +76,39 @@ fn three_sinks_at_the_root() {
     assert!(text.ends_with("leaf=1,5\nleaf=2,4\nleaf=3,5\nnode=4,0,0,0\nnode=5,4,0,0\n"));
 }
 
+/// Request 1: the root is nearer to sink 3 than both tied sinks are, so the
+/// edge above branch point 4 is split.
+#[test]
+fn a_branch_point_is_nearest() {
+    let net = "root=0,0\nbranch=20\nwire=2\nneed=-40\nsinks=3\n\
+               sink=10,0,20\nsink=10,0,20\nsink=1,0,2\n";
+    let (answer, text) = plan(net);
+    assert_eq!((answer.slack, answer.wire), (-40, 10));
+    assert!(text.ends_with("leaf=1,4\nleaf=2,4\nleaf=3,5\nnode=4,5,10,0\nnode=5,0,1,0\n"));
+    assert_eq!(judge(net, &text), Answer::done(-40, 10, -40));
+}
+
+/// All edges tie for sink 3, and sink 2 is nearer to it than sink 1 and the
+/// root.
+#[test]
+fn the_nearer_of_two_sinks() {
+    let net = "root=0,0\nbranch=20\nwire=2\nneed=-40\nsinks=3\n\
+               sink=10,0,20\nsink=0,10,20\nsink=1,10,22\n";
+    let (answer, text) = plan(net);
+    assert_eq!((answer.slack, answer.wire), (-40, 21));
+    assert!(text.ends_with("leaf=1,4\nleaf=2,5\nleaf=3,5\nnode=4,0,0,0\nnode=5,4,0,10\n"));
+}
+
+/// The root is as near to sink 3 as sink 2 is: the sink has the lower number.
+#[test]
+fn a_sink_as_near_as_the_root() {
+    let net = "root=0,0\nbranch=20\nwire=2\nneed=-40\nsinks=3\n\
+               sink=-10,0,20\nsink=4,4,16\nsink=6,-1,14\n";
+    let (answer, text) = plan(net);
+    assert_eq!((answer.slack, answer.wire), (-40, 21));
+    assert!(text.ends_with("leaf=1,4\nleaf=2,5\nleaf=3,5\nnode=4,0,0,0\nnode=5,4,4,0\n"));
+}
+
 #[test]
 fn one_sink() {
     for c in [1, 20, 1_000_000] {

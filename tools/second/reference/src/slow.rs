@@ -5,6 +5,8 @@ use crate::kraft;
 use crate::listing::Listing;
 use crate::net::Net;
 use crate::tree::{fault, median, slack, wire, worst_slack, Fault, Point, Tree};
+use std::cmp::Reverse;
+use std::ops::Range;
 
 /// Beyond this many sinks the slow plan takes too long for many nets.
 pub const MOST_SINKS: usize = 24;
@@ -57,7 +59,7 @@ pub fn planned(net: &Net) -> Tree {
         tree = enlarged(net, &tree, &inserted, n + i);
         check_depths(&tree, &inserted);
     }
-    settle(&mut tree, n);
+    settle(&mut tree, n + 1..2 * n);
     tree
 }
 
@@ -73,30 +75,41 @@ fn unsettled(net: &Net) -> Tree {
     }
 }
 
-/// The best tree that the last sink of `inserted` can make with branch point
-/// `new`. Lower ends come in rising number, so a tie stays with the lowest.
+/// The tree that the last sink of `inserted` makes with branch point `new`.
+/// 01, step 3: "The edge is the one that gives the largest worst slack of the
+/// enlarged tree". 02, request 1: "Among edges of equal worst slack, take the
+/// one whose lower end is nearest to the new sink, branch points counted at the
+/// root's position as during insertion; then the lowest number."
 fn enlarged(net: &Net, tree: &Tree, inserted: &[usize], new: usize) -> Tree {
     let n = net.sinks.len();
     let (&sink, before) = inserted.split_last().expect("a sink to insert");
-    let mut best: Option<(i128, Tree)> = None;
-    for v in 1..new {
-        if v <= n && !before.contains(&v) {
-            continue;
-        }
-        let mut candidate = tree.clone();
-        candidate.parent[new] = tree.parent[v];
-        candidate.parent[v] = new;
-        candidate.parent[sink] = new;
-        let worst = inserted
-            .iter()
-            .map(|&k| slack(net, &candidate, k))
-            .min()
-            .expect("not empty");
-        if best.as_ref().is_none_or(|b| worst > b.0) {
-            best = Some((worst, candidate));
-        }
-    }
-    best.expect("a tree has an edge").1
+    (1..new)
+        .filter(|v| *v > n || before.contains(v))
+        .map(|v| (v, split(tree, v, new, sink)))
+        .max_by_key(|(v, candidate)| {
+            let worst = worst_over(net, candidate, inserted);
+            let distance = tree.point[*v].distance(tree.point[sink]);
+            (worst, Reverse(distance), Reverse(*v))
+        })
+        .expect("a tree has an edge")
+        .1
+}
+
+/// The edge above v is split by the branch point `new`, which gets the sink.
+fn split(tree: &Tree, v: usize, new: usize, sink: usize) -> Tree {
+    let mut enlarged = tree.clone();
+    enlarged.parent[new] = tree.parent[v];
+    enlarged.parent[v] = new;
+    enlarged.parent[sink] = new;
+    enlarged
+}
+
+fn worst_over(net: &Net, tree: &Tree, inserted: &[usize]) -> i128 {
+    inserted
+        .iter()
+        .map(|&k| slack(net, tree, k))
+        .min()
+        .expect("not empty")
 }
 
 /// The sum of 2^-(branch points above the sink) is exactly 1.
@@ -115,19 +128,20 @@ fn check_depths(tree: &Tree, inserted: &[usize]) {
     }
 }
 
-/// From the leaves up: a branch point moves once its children have settled.
-fn settle(tree: &mut Tree, n: usize) {
+/// From the leaves up: a branch point moves once its children have settled,
+/// whatever their numbers.
+fn settle(tree: &mut Tree, branch_points: Range<usize>) {
     let root = tree.point[0];
-    let mut settled: Vec<bool> = (0..2 * n).map(|v| v <= n).collect();
-    while let Some(v) =
-        (n + 1..2 * n).find(|&v| !settled[v] && children(tree, v).all(|k| settled[k]))
+    let mut waiting: Vec<usize> = branch_points.collect();
+    while let Some(i) = waiting
+        .iter()
+        .position(|&v| children(tree, v).all(|k| !waiting.contains(&k)))
     {
-        let mut below = children(tree, v).map(|k| tree.point[k]);
-        let (first, second) = (below.next().expect("two"), below.next().expect("two"));
-        drop(below);
-        tree.point[v] = median(root, first, second);
-        settled[v] = true;
+        let v = waiting.swap_remove(i);
+        let below: Vec<Point> = children(tree, v).map(|k| tree.point[k]).collect();
+        tree.point[v] = median(root, below[0], below[1]);
     }
+    assert!(waiting.is_empty(), "a branch point has not settled");
 }
 
 fn children(tree: &Tree, v: usize) -> impl Iterator<Item = usize> + '_ {

@@ -5,6 +5,7 @@
 use repeater_tree::{judge_figures, plan_figures, JudgeFigures, PlanFigures, LISTING_LENGTH};
 use second_reference::net::Net;
 use second_reference::plain;
+use second_tool::near;
 use second_tool::nets;
 use second_tool::random::Random;
 use second_tool::timing::{compare, median, Pair};
@@ -13,14 +14,21 @@ use std::time::{Duration, Instant};
 
 type Make = fn(&mut Random, usize) -> Net;
 
-const SHAPES: [(&str, Make); 5] = [
+const SHAPES: [(&str, Make); 9] = [
     ("common", nets::common),
     ("tied", nets::tied),
     ("falling", nets::falling),
     ("path, rising", nets::rising),
-    ("path, spare", nets::spare),
+    ("spare", nets::spare),
+    ("one spot", near::one_spot),
+    ("path, deep", near::deep),
+    ("near root", near::tree_near_root),
+    ("path near root", near::path_near_root),
 ];
-const SIZES: [usize; 6] = [1, 5, 12, 50, 200, 512];
+const SIZES: [usize; 8] = [1, 5, 12, 16, 17, 50, 200, 512];
+/// Where the growth is read off.
+const LARGE: usize = SIZES.len() - 2;
+const LARGEST: usize = SIZES.len() - 1;
 /// Different nets of one shape and size.
 const NETS: usize = 12;
 
@@ -134,10 +142,11 @@ fn million() {
 }
 
 fn growth(name: &str, rows: &[Vec<Pair>]) {
-    let square = (512.0f64 / 200.0).powi(2);
-    println!("\n{name}: time at 512 sinks over time at 200; the square of 512/200 is {square:.2}");
+    let (large, largest) = (SIZES[LARGE], SIZES[LARGEST]);
+    let square = (largest as f64 / large as f64).powi(2);
+    println!("\n{name}: time at {largest} sinks over time at {large}; the square of their ratio is {square:.2}");
     for ((shape, _), row) in SHAPES.iter().zip(rows) {
-        let (small, large) = (row[4], row[5]);
+        let (small, large) = (row[LARGE], row[LARGEST]);
         println!(
             "{shape:<14} library {:.2}, plain {:.2}",
             large.library / small.library,
@@ -145,10 +154,13 @@ fn growth(name: &str, rows: &[Vec<Pair>]) {
         );
     }
     let worst = |time: fn(&Pair) -> f64| {
-        rows.iter().map(|row| time(&row[5])).fold(0.0, f64::max) / time(&rows[0][5])
+        rows.iter()
+            .map(|row| time(&row[LARGEST]))
+            .fold(0.0, f64::max)
+            / time(&rows[0][LARGEST])
     };
     println!(
-        "worst of the 512-sink shapes over the common one: library {:.2}, plain {:.2}",
+        "worst of the {largest}-sink shapes over the common one: library {:.2}, plain {:.2}",
         worst(|p| p.library),
         worst(|p| p.plain)
     );

@@ -104,6 +104,10 @@ fn main() -> ExitCode {
         println!("{call} answers by number, 0 to 12: {numbers:?}");
     }
     println!(
+        "plans in which an edge above a branch point was split: {} of {}",
+        s.split_above_branch_point, s.numbers[0][0]
+    );
+    println!(
         "compared {} cases, {} disagreements",
         s.total(),
         s.disagreements

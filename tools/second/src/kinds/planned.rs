@@ -1,5 +1,6 @@
 //! Nets that are planned, and whose plans are judged.
 
+use crate::near;
 use crate::nets;
 use crate::random::Random;
 use crate::session::Session;
@@ -43,11 +44,13 @@ fn plan_and_judge(s: &mut Session, net: &Net) {
 }
 
 pub fn marked(s: &mut Session, _: &mut Random) {
-    let nets: [&[u8]; 4] = [
+    let nets: [&[u8]; 6] = [
         b"root=0,0\nbranch=20\nwire=2\nneed=0\nsinks=3\nsink=10,0,100\nsink=4,6,60\nsink=10,10,70\n",
         b"root=0,0\nbranch=20\nwire=2\nneed=-40\nsinks=3\nsink=0,0,0\nsink=0,0,0\nsink=0,0,0\n",
         b"root=0,0\nbranch=20\nwire=2\nneed=-4\nsinks=1\nsink=3,4,10\n",
         b"root=0,0\nbranch=3\nwire=1\nneed=2\nsinks=2\nsink=0,0,5\nsink=1,0,6\n",
+        b"root=0,0\nbranch=20\nwire=2\nneed=-40\nsinks=3\nsink=10,0,20\nsink=10,0,20\nsink=1,0,2\n",
+        b"root=0,0\nbranch=20\nwire=2\nneed=-40\nsinks=3\nsink=10,0,20\nsink=0,10,20\nsink=1,10,22\n",
     ];
     for text in nets {
         let mut net = Net::read(text).expect("a marked net");
@@ -84,6 +87,39 @@ pub fn extremes(s: &mut Session, r: &mut Random) {
 pub fn path_like(s: &mut Session, r: &mut Random) {
     let n = r.pick(&[3, 17, 24, 60, 150]);
     plan_and_judge(s, &nets::path_like(r, n));
+}
+
+/// Mostly within the slow plan's reach, now and then up to the most sinks.
+fn near_size(r: &mut Random) -> usize {
+    match r.index(40) {
+        0 => r.between(201, 512) as usize,
+        1..=4 => r.between(25, 200) as usize,
+        _ => r.between(2, 24) as usize,
+    }
+}
+
+pub fn few_spots(s: &mut Session, r: &mut Random) {
+    let n = near_size(r);
+    plan_and_judge(s, &near::few_spots(r, n));
+}
+
+pub fn spread_out(s: &mut Session, r: &mut Random) {
+    let n = near_size(r);
+    plan_and_judge(s, &near::spread_out(r, n));
+}
+
+pub fn as_near(s: &mut Session, r: &mut Random) {
+    let n = near_size(r);
+    plan_and_judge(s, &near::as_near(r, n));
+}
+
+pub fn near_root(s: &mut Session, r: &mut Random) {
+    let n = near_size(r);
+    plan_and_judge(s, &near::near_root(r, n));
+}
+
+pub fn near_full(s: &mut Session, r: &mut Random) {
+    plan_and_judge(s, &near::any(r, 512));
 }
 
 pub fn full(s: &mut Session, r: &mut Random) {

@@ -95,15 +95,15 @@ same-length-9 c = search needs
 
 returns-2 : tie.Need-returns-2
 returns-2 c =
-    let s = c .before .before .before .before .before .before .before .before .before .before .before .before .before .before .before .before .before .before .before .before .before .before .before .before .before .before .before in
+    let s = c .before .before .before .before .before .before .before .before .before .before .before .before .before .before .before .before .before .before .before .before .before .before .before .before .before in
     let a = s .args in
-    let d = c .before .before .before .before .before .before .before .before .before .before .before .before .before .before in
-    let r = c .before .before .before .before .before .before .before .before .before .before .before .before .before .before .before .before .before .before .before .before .read-listing in
+    let d = c .before .before .before .before .before .before .before .before .before .before .before .before in
+    let r = c .before .before .before .before .before .before .before .before .before .before .before .before .before .before .before .before .before .before .read-listing in
     let xs = r .last .1 .1 .1 .0 in
     let ys = r .last .1 .1 .1 .1 .0 in
     tree-judged (net s) (netOf (a .header) (a .n) xs ys (a .required .now)) (a .n) (a .listing .now) (listing d) (read d)
     (kept-net (a .header) (a .n) (a .xs .now) (a .ys .now) (a .required .now) xs ys (r .ensures .1))
-    (judgeFigures (c .before .before .before .before .before .before .judge-tree .result)) (c .before .before .before .before .before .before .judge-tree .ensures)
+    (judgeFigures (c .before .before .before .before .judge-tree .result)) (c .before .before .before .before .judge-tree .ensures)
 
 pub judge-listing-spec : {M : Type 1} → statement M
 judge-listing-spec =

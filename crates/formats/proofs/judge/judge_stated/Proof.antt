@@ -12,10 +12,10 @@ use Rattle.formats.proofs.judge.judge_stated.Tie as tie
 
 -- the net and the listing that are judged
 abbrev net : tie.After-measure-tree → Net
-net c = let a = c .before .before .before .before .before .args in netOf (a .header) (a .n) (a .xs .now) (a .ys .now) (a .required .now)
+net c = let a = c .before .before .before .before .args in netOf (a .header) (a .n) (a .xs .now) (a .ys .now) (a .required .now)
 
 abbrev listing : tie.After-measure-tree → Listing
-listing c = let a = c .before .before .before .before .before .args in record { slack = a .slack .0; wire = a .wire .0; tree = treeOf (a .n) (a .parents .now) (a .xs .now) (a .ys .now) }
+listing c = let a = c .before .before .before .before .args in record { slack = a .slack .0; wire = a .wire .0; tree = treeOf (a .n) (a .parents .now) (a .xs .now) (a .ys .now) }
 
 -- the stated slack is the measured one
 low : (c : tie.Else2) → ltZ (listing (c .before .before .before .before .before .before .before) .slack) (c .before .before .before .before .before .before .before .measure-tree .result .worst .0) ≡ false
@@ -33,9 +33,6 @@ is-less-requires c κs = search needs
 same-length : tie.Need-same-length
 same-length c = search needs
 
-same-length-2 : tie.Need-same-length-2
-same-length-2 c = search needs
-
 returns : tie.Need-returns
 returns c =
     let m = c .before .before .before .before .before in
@@ -44,11 +41,8 @@ returns c =
 is-less-requires-2 : tie.Need-is-less-requires-2
 is-less-requires-2 c κs = search needs
 
-same-length-3 : tie.Need-same-length-3
-same-length-3 c = search needs
-
-same-length-4 : tie.Need-same-length-4
-same-length-4 c = search needs
+same-length-2 : tie.Need-same-length-2
+same-length-2 c = search needs
 
 returns-2 : tie.Need-returns-2
 returns-2 c =
@@ -61,11 +55,8 @@ value-requires c κs = search needs
 value-requires-2 : tie.Need-value-requires-2
 value-requires-2 c κs = search needs
 
-same-length-5 : tie.Need-same-length-5
-same-length-5 c = search needs
-
-same-length-6 : tie.Need-same-length-6
-same-length-6 c = search needs
+same-length-3 : tie.Need-same-length-3
+same-length-3 c = search needs
 
 returns-3 : tie.Need-returns-3
 returns-3 c =
@@ -75,29 +66,26 @@ returns-3 c =
 
 kraft-maximum-requires : tie.Need-kraft-maximum-requires
 kraft-maximum-requires c κs =
-    let s = c .before .before .before .before .before .before .before .before .before .before .before .before .before .before .before .before .before .before .before in
-    (s .pre .0 .0, omega (arith, s .pre .0 .1 .parents-in .long, s .pre .1, c .before .before .before .before .before .before .before .before .before .before .before .before .before .before .measure-tree .kept))
+    let s = c .before .before .before .before .before .before .before .before .before .before .before .before .before .before .before .before .before in
+    (s .pre .0 .0, omega (arith, s .pre .1, c .before .before .before .before .before .before .before .before .before .before .before .before .before .measure-tree .kept))
 
-same-length-7 : tie.Need-same-length-7
-same-length-7 c = search needs
+same-length-4 : tie.Need-same-length-4
+same-length-4 c = search needs
 
-same-length-8 : tie.Need-same-length-8
-same-length-8 c = search needs
+same-length-5 : tie.Need-same-length-5
+same-length-5 c = search needs
 
-same-length-9 : tie.Need-same-length-9
-same-length-9 c = search needs
-
-same-length-10 : tie.Need-same-length-10
-same-length-10 c = search needs
+same-length-6 : tie.Need-same-length-6
+same-length-6 c = search needs
 
 returns-4 : tie.Need-returns-4
 returns-4 c =
-    let m = c .before .before .before .before .before .before .before .before .before .before .before .before .before .before .before .before .before .before .before .before .before in
-    let held = m .before .before .before .before .before .pre .0 .0 in
-    let d = c .before .before .before .before .before .before .before .before .before .before .before .before .before .before in
-    let best = c .before .before .before .before .before .before .kraft-maximum in
+    let m = c .before .before .before .before .before .before .before .before .before .before .before .before .before .before .before .before .before .before in
+    let held = m .before .before .before .before .pre .0 .0 in
+    let d = c .before .before .before .before .before .before .before .before .before .before .before in
+    let best = c .before .before .before .before .kraft-maximum in
     accepted (net m) (listing m) (m .measure-tree .result .worst .0) (m .measure-tree .result .wire .0) (m .measure-tree .ensures .0) (m .measure-tree .ensures .1) (low d) (high d)
-    (sym (c .before .before .before .before .before .before .before .before .before .before .before .before .before .value .ensures) ∙ c .before .before .before .before .before .before .before .before .before .before .before .if3 .left ∙ c .before .before .before .before .before .before .before .before .before .before .before .before .value2 .ensures) (held .in-range .branch .0) (held .in-range .sinks .0) (best .result .0) (best .ensures)
+    (sym (c .before .before .before .before .before .before .before .before .before .before .value .ensures) ∙ c .before .before .before .before .before .before .before .before .if3 .left ∙ c .before .before .before .before .before .before .before .before .before .value2 .ensures) (held .in-range .branch .0) (held .in-range .sinks .0) (best .result .0) (best .ensures)
 
 pub judge-stated-spec : {M : Type 1} → statement M
 judge-stated-spec =
@@ -106,20 +94,16 @@ judge-stated-spec =
     measure-tree-requires
     is-less-requires
     same-length
-    same-length-2
     returns
     is-less-requires-2
-    same-length-3
-    same-length-4
+    same-length-2
     returns-2
     value-requires
     value-requires-2
-    same-length-5
-    same-length-6
+    same-length-3
     returns-3
     kraft-maximum-requires
-    same-length-7
-    same-length-8
-    same-length-9
-    same-length-10
+    same-length-4
+    same-length-5
+    same-length-6
     returns-4)

@@ -31,16 +31,16 @@ wrongs s = wrongChildren (s .args .n) (parentsOf (s .args .n) (s .args .parents 
 abbrev lost : tie.Start → Option ℕ
 lost s = unreached (s .args .n) (parentsOf (s .args .n) (s .args .parents .now))
 
-wrong-one : (c : tie.After-v) → wrongs (c .before .before .before .before .before .before .before .before .before) ≡ some (c .v .given .0 .0)
+wrong-one : (c : tie.After-v) → wrongs (c .before .before .before .before .before .before .before .before) ≡ some (c .v .given .0 .0)
 wrong-one c = sym (c .before .before .before .before .wrong-children .ensures) ∙ ap foundIn (c .v .given .1)
 
-wrong-none : (c : tie.After-enum-told) → wrongs (c .before .before .before .before .before .before .before .before .before) ≡ none
+wrong-none : (c : tie.After-enum-told) → wrongs (c .before .before .before .before .before .before .before .before) ≡ none
 wrong-none c = sym (c .before .before .before .before .wrong-children .ensures) ∙ ap foundIn (c .enum-told .given .1)
 
-lost-one : (c : tie.After-v2) → lost (c .before .before .before .before .before .before .before .before .before .before .before .before .before) ≡ some (c .v2 .given .0 .0)
+lost-one : (c : tie.After-v2) → lost (c .before .before .before .before .before .before .before .before .before .before .before) ≡ some (c .v2 .given .0 .0)
 lost-one c = sym (c .before .before .lowest-unreached .ensures) ∙ ap foundIn (c .v2 .given .1)
 
-lost-none : (c : tie.After-enum-told2) → lost (c .before .before .before .before .before .before .before .before .before .before .before .before .before) ≡ none
+lost-none : (c : tie.After-enum-told2) → lost (c .before .before .before .before .before .before .before .before .before .before .before) ≡ none
 lost-none c = sym (c .before .before .lowest-unreached .ensures) ∙ ap foundIn (c .enum-told2 .given .1)
 
 wrong-children-requires : tie.Need-wrong-children-requires
@@ -51,19 +51,16 @@ enum-known-v c = search needs
 
 vertex-line-requires : tie.Need-vertex-line-requires
 vertex-line-requires c κs =
-    let s = c .before .before .before .before .before .before .before .before .before .before in
+    let s = c .before .before .before .before .before .before .before .before .before in
     let p = s .pre .0 .1 .parents-in in
     omega (arith, wrong-vertex (s .args .n) (listing s .tree .parents) (c .before .v .given .0 .0) (p .some) (wrong-one (c .before)), p .few)
 
 same-length : tie.Need-same-length
 same-length c = search needs
 
-same-length-2 : tie.Need-same-length-2
-same-length-2 c = search needs
-
 returns : tie.Need-returns
 returns c =
-    let s = c .before .before .before .before .before .before .before .before .before .before .before in
+    let s = c .before .before .before .before .before .before .before .before .before .before in
     wrong-refused (net s) (listing s) (s .args .n) (sized s) (c .before .before .v .given .0 .0) (c .vertex-line .result) (wrong-one (c .before .before)) (c .vertex-line .ensures)
 
 enum-told : tie.Need-enum-told
@@ -77,9 +74,25 @@ enum-known-v-2 c = search needs
 
 vertex-line-requires-2 : tie.Need-vertex-line-requires-2
 vertex-line-requires-2 c κs =
-    let s = c .before .before .before .before .before .before .before .before .before .before .before .before .before .before in
+    let s = c .before .before .before .before .before .before .before .before .before .before .before .before in
     let p = s .pre .0 .1 .parents-in in
     omega (arith, lost-vertex (s .args .n) (listing s .tree .parents) (c .before .v2 .given .0 .0) (p .some) (lost-one (c .before)), p .few)
+
+same-length-2 : tie.Need-same-length-2
+same-length-2 c = search needs
+
+returns-2 : tie.Need-returns-2
+returns-2 c =
+    let s = c .before .before .before .before .before .before .before .before .before .before .before .before .before in
+    lost-refused (net s) (listing s) (s .args .n) (sized s) (wrong-none (c .before .before .before .before .before)) (c .before .before .v2 .given .0 .0) (c .vertex-line2 .result) (lost-one (c .before .before)) (c .vertex-line2 .ensures)
+
+enum-told-2 : tie.Need-enum-told-2
+enum-told-2 c = search needs
+
+judge-stated-requires : tie.Need-judge-stated-requires
+judge-stated-requires c κs =
+    let s = c .before .before .before .before .before .before .before .before .before .before .before .before .before .before in
+    (s .pre .0, (s .pre .1 .0, s .pre .1 .1, omega (arith, s .pre .1 .2, c .before .before .before .before .before .before .before .before .before .before .wrong-children .kept)))
 
 same-length-3 : tie.Need-same-length-3
 same-length-3 c = search needs
@@ -87,35 +100,13 @@ same-length-3 c = search needs
 same-length-4 : tie.Need-same-length-4
 same-length-4 c = search needs
 
-returns-2 : tie.Need-returns-2
-returns-2 c =
-    let s = c .before .before .before .before .before .before .before .before .before .before .before .before .before .before .before in
-    lost-refused (net s) (listing s) (s .args .n) (sized s) (wrong-none (c .before .before .before .before .before .before)) (c .before .before .v2 .given .0 .0) (c .vertex-line2 .result) (lost-one (c .before .before)) (c .vertex-line2 .ensures)
-
-enum-told-2 : tie.Need-enum-told-2
-enum-told-2 c = search needs
-
-judge-stated-requires : tie.Need-judge-stated-requires
-judge-stated-requires c κs =
-    let s = c .before .before .before .before .before .before .before .before .before .before .before .before .before .before .before .before .before in
-    (s .pre .0, (s .pre .1 .0, s .pre .1 .1, omega (arith, s .pre .1 .2, c .before .before .before .before .before .before .before .before .before .before .before .before .wrong-children .kept)))
-
 same-length-5 : tie.Need-same-length-5
 same-length-5 c = search needs
 
-same-length-6 : tie.Need-same-length-6
-same-length-6 c = search needs
-
-same-length-7 : tie.Need-same-length-7
-same-length-7 c = search needs
-
-same-length-8 : tie.Need-same-length-8
-same-length-8 c = search needs
-
 returns-3 : tie.Need-returns-3
 returns-3 c =
-    let s = c .before .before .before .before .before .before .before .before .before .before .before .before .before .before .before .before .before .before .before .before .before .before .before .before in
-    legal-judged (net s) (listing s) (s .args .n) (sized s) (wrong-none (c .before .before .before .before .before .before .before .before .before .before .before .before .before .before .before)) (lost-none (c .before .before .before .before .before .before .before .before .before .before .before)) (judgeFigures (c .before .before .before .before .before .before .judge-stated .result)) (c .before .before .before .before .before .before .judge-stated .ensures)
+    let s = c .before .before .before .before .before .before .before .before .before .before .before .before .before .before .before .before .before .before .before in
+    legal-judged (net s) (listing s) (s .args .n) (sized s) (wrong-none (c .before .before .before .before .before .before .before .before .before .before .before)) (lost-none (c .before .before .before .before .before .before .before .before)) (judgeFigures (c .before .before .before .before .judge-stated .result)) (c .before .before .before .before .judge-stated .ensures)
 
 pub judge-tree-spec : {M : Type 1} → statement M
 judge-tree-spec =
@@ -125,19 +116,16 @@ judge-tree-spec =
     enum-known-v
     vertex-line-requires
     same-length
-    same-length-2
     returns
     enum-told
     lowest-unreached-requires
     enum-known-v-2
     vertex-line-requires-2
-    same-length-3
-    same-length-4
+    same-length-2
     returns-2
     enum-told-2
     judge-stated-requires
+    same-length-3
+    same-length-4
     same-length-5
-    same-length-6
-    same-length-7
-    same-length-8
     returns-3)

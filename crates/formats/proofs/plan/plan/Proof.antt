@@ -1,4 +1,3 @@
-use native.Mathlib.Omega.{arith}
 use borrow.Author.Needs.{needs}
 use Rattle.formats.proofs.Laws.Planning.{refused-answer}
 use Rattle.formats.proofs.plan.plan.Statement.{statement}
@@ -20,10 +19,17 @@ plan-small-requires c κs =
     let w = rw g at (e .1) in
     (rw g at (e .0), c .before .if1 .taken, w .1, w .2)
 
+plan-medium-requires : tie.Need-plan-medium-requires
+plan-medium-requires c κs =
+    let g = c .before .before .before .before .header .given .1 in
+    let e = c .before .before .before .before .before .before .read-head .ensures in
+    let w = rw g at (e .1) in
+    (rw g at (e .0), c .before .if2 .taken, w .1, w .2)
+
 plan-large-requires : tie.Need-plan-large-requires
 plan-large-requires c κs =
-    let g = c .before .before .before .header .given .1 in
-    let e = c .before .before .before .before .before .read-head .ensures in
+    let g = c .before .before .before .before .header .given .1 in
+    let e = c .before .before .before .before .before .before .read-head .ensures in
     let w = rw g at (e .1) in
     (rw g at (e .0), w .0, w .1, w .2)
 
@@ -42,6 +48,12 @@ same-length-2 c = search needs
 returns-3 : tie.Need-returns-3
 returns-3 c = search needs
 
+same-length-3 : tie.Need-same-length-3
+same-length-3 c = search needs
+
+returns-4 : tie.Need-returns-4
+returns-4 c = search needs
+
 pub plan-spec : {M : Type 1} → statement M
 plan-spec =
     tie.close
@@ -50,9 +62,12 @@ plan-spec =
     enum-known-number
     enum-known-header
     plan-small-requires
+    plan-medium-requires
     plan-large-requires
     returns
     same-length
     returns-2
     same-length-2
-    returns-3)
+    returns-3
+    same-length-3
+    returns-4)

@@ -24,9 +24,15 @@ slice-aggregate-plan-rest-6 c = search needs
 slice-aggregate-plan-rest-7 : tie.Need-slice-aggregate-plan-rest-7
 slice-aggregate-plan-rest-7 c = search needs
 
+slice-aggregate-plan-rest-8 : tie.Need-slice-aggregate-plan-rest-8
+slice-aggregate-plan-rest-8 c = search needs
+
+slice-aggregate-plan-rest-9 : tie.Need-slice-aggregate-plan-rest-9
+slice-aggregate-plan-rest-9 c = search needs
+
 plan-rest-requires : tie.Need-plan-rest-requires
 plan-rest-requires c κs =
-    let p = c .before .before .before .before .before .before .before .before .before .before .pre in
+    let p = c .before .before .before .before .before .before .before .before .before .before .before .before .pre in
     ((p .0, omega (arith, p .1), p .2, p .3), omega (arith, p .1))
 
 same-length : tie.Need-same-length
@@ -46,6 +52,8 @@ plan-large-spec =
     slice-aggregate-plan-rest-5
     slice-aggregate-plan-rest-6
     slice-aggregate-plan-rest-7
+    slice-aggregate-plan-rest-8
+    slice-aggregate-plan-rest-9
     plan-rest-requires
     same-length
     returns)

@@ -12,13 +12,13 @@ use Rattle.formats.proofs.plan.plan_net.Tie as tie
 
 -- the net, and the listing of its plan
 abbrev net : tie.After-plan → Net
-net c = let a = c .before .before .before .before .before .before .before .before .before .before .before .args in netOf (a .header) (a .n) (a .xs .now) (a .ys .now) (a .required .now)
+net c = let a = c .before .before .before .before .before .before .before .before .before .before .before .before .before .before .before .args in netOf (a .header) (a .n) (a .xs .now) (a .ys .now) (a .required .now)
 
-sized : (c : tie.After-plan) → size (net c) ≡ c .before .before .before .before .before .before .before .before .before .before .before .args .n
-sized c = let a = c .before .before .before .before .before .before .before .before .before .before .before .args in size-is (a .header) (a .n) (a .xs .now) (a .ys .now) (a .required .now)
+sized : (c : tie.After-plan) → size (net c) ≡ c .before .before .before .before .before .before .before .before .before .before .before .before .before .before .before .args .n
+sized c = let a = c .before .before .before .before .before .before .before .before .before .before .before .before .before .before .before .args in size-is (a .header) (a .n) (a .xs .now) (a .ys .now) (a .required .now)
 
 abbrev listing : tie.After-plan → Listing
-listing c = let p = c .plan in record { slack = p .result .worst .0; wire = p .result .wire .0; tree = treeOf (c .before .before .before .before .before .before .before .before .before .before .before .args .n) (p .last .1 .1 .1 .1 .1 .0) (p .last .1 .1 .0) (p .last .1 .1 .1 .0) }
+listing c = let p = c .plan in record { slack = p .result .worst .0; wire = p .result .wire .0; tree = treeOf (c .before .before .before .before .before .before .before .before .before .before .before .before .before .before .before .args .n) (p .last .1 .1 .1 .1 .1 .0) (p .last .1 .1 .0) (p .last .1 .1 .1 .0) }
 
 made : (c : tie.After-plan) → listing c ≡ planned (net c)
 made c = let e = c .plan .ensures in λ i. record { slack = e .1 .1 .0 i; wire = e .1 .1 .1 i; tree = e .0 i }
@@ -47,22 +47,22 @@ same-length-5 c = search needs
 same-length-6 : tie.Need-same-length-6
 same-length-6 c = search needs
 
-returns : tie.Need-returns
-returns c =
-    let d = c .before .before .before .before .before .before .before .before .before .before .before .before in
-    unreachable (net d) _ (listing d) (sized d) (made d) _ (sym (c .before .is-less .ensures) ∙ c .if1 .taken)
-
-emit-requires : tie.Need-emit-requires
-emit-requires c κs =
-    let d = c .before .before .before .before .before .before .before .before .before .before .before .before .before .before .before .before in
-    let R = d .before .before .before .before .before .before .before .before .before .before .before .pre .0 .in-range in
-    (planned-in-range (net d) _ (listing d) (sized d) (made d) R, (omega (arith, d .before .before .before .before .before .before .before .before .before .before .before .pre .1, d .plan .kept), planned-short (net d) _ (listing d) (sized d) (made d) R))
-
 same-length-7 : tie.Need-same-length-7
 same-length-7 c = search needs
 
 same-length-8 : tie.Need-same-length-8
 same-length-8 c = search needs
+
+returns : tie.Need-returns
+returns c =
+    let d = c .before .before .before .before .before .before .before .before .before .before .before .before .before .before .before .before in
+    unreachable (net d) _ (listing d) (sized d) (made d) _ (sym (c .before .is-less .ensures) ∙ c .if1 .taken)
+
+emit-requires : tie.Need-emit-requires
+emit-requires c κs =
+    let d = c .before .before .before .before .before .before .before .before .before .before .before .before .before .before .before .before .before .before .before .before in
+    let R = d .before .before .before .before .before .before .before .before .before .before .before .before .before .before .before .pre .0 .in-range in
+    (planned-in-range (net d) _ (listing d) (sized d) (made d) R, (omega (arith, d .before .before .before .before .before .before .before .before .before .before .before .before .before .before .before .pre .1, d .plan .kept), planned-short (net d) _ (listing d) (sized d) (made d) R))
 
 same-length-9 : tie.Need-same-length-9
 same-length-9 c = search needs
@@ -79,11 +79,23 @@ same-length-12 c = search needs
 same-length-13 : tie.Need-same-length-13
 same-length-13 c = search needs
 
+same-length-14 : tie.Need-same-length-14
+same-length-14 c = search needs
+
+same-length-15 : tie.Need-same-length-15
+same-length-15 c = search needs
+
+same-length-16 : tie.Need-same-length-16
+same-length-16 c = search needs
+
+same-length-17 : tie.Need-same-length-17
+same-length-17 c = search needs
+
 returns-2 : tie.Need-returns-2
 returns-2 c =
-    let d = c .before .before .before .before .before .before .before .before .before .before .before .before .before .before .before .before .before .before .before in
+    let d = c .before .before .before .before .before .before .before .before .before .before .before .before .before .before .before .before .before .before .before .before .before .before .before in
     let e = c .before .before .emit .ensures in
-    reachable (net d) _ (listing d) (sized d) (made d) _ (d .before .before .before .before .before .before .before .before .before .before .before .args .out .now) _ (sym (c .before .before .before .before .before .before .before .before .is-less .ensures) ∙ c .before .before .before .before .before .before .before .if1 .left) (e .0) (e .1)
+    reachable (net d) _ (listing d) (sized d) (made d) _ (d .before .before .before .before .before .before .before .before .before .before .before .before .before .before .before .args .out .now) _ (sym (c .before .before .before .before .before .before .before .before .is-less .ensures) ∙ c .before .before .before .before .before .before .before .if1 .left) (e .0) (e .1)
 
 pub plan-net-spec : {M : Type 1} → statement M
 plan-net-spec =
@@ -97,13 +109,17 @@ plan-net-spec =
     same-length-4
     same-length-5
     same-length-6
-    returns
-    emit-requires
     same-length-7
     same-length-8
+    returns
+    emit-requires
     same-length-9
     same-length-10
     same-length-11
     same-length-12
     same-length-13
+    same-length-14
+    same-length-15
+    same-length-16
+    same-length-17
     returns-2)

@@ -10,8 +10,8 @@ use Rattle.formats.proofs.plan.plan_rest.Statement.{statement}
 use Rattle.formats.proofs.plan.plan_rest.Tie as tie
 
 -- the arrays hold the net that was read
-read : (c : tie.After-enum-told) → (let a = c .before .before .before .before .before .before .before .before .before .before .before .before .before .args in let l = c .before .before .before .before .before .read-rest .last in readNet (a .net .now) ≡ value (netOf (a .header) (a .n) (l .1 .1 .1 .1 .0) (l .1 .1 .1 .1 .1 .0) (l .1 .1 .1 .1 .1 .1 .0)))
-read c = let s = c .before .before .before .before .before .before .before .before .before .before .before .before .before in s .pre .0 .0 ∙ (rw (c .enum-told .given .1) at (c .before .before .before .before .before .read-rest .ensures (s .args .header)))
+read : (c : tie.After-enum-told) → (let a = c .before .before .before .before .before .before .before .before .before .before .before .before .before .before .before .args in let l = c .before .before .before .before .before .read-rest .last in readNet (a .net .now) ≡ value (netOf (a .header) (a .n) (l .1 .1 .1 .1 .0) (l .1 .1 .1 .1 .1 .0) (l .1 .1 .1 .1 .1 .1 .0)))
+read c = let s = c .before .before .before .before .before .before .before .before .before .before .before .before .before .before .before in s .pre .0 .0 ∙ (rw (c .enum-told .given .1) at (c .before .before .before .before .before .read-rest .ensures (s .args .header)))
 
 read-rest-requires : tie.Need-read-rest-requires
 read-rest-requires c κs = search needs
@@ -30,7 +30,7 @@ same-length-3 c = search needs
 
 returns : tie.Need-returns
 returns c =
-    let s = c .before .before .before .before .before .before .before .before .before .before .before .before .before .before in
+    let s = c .before .before .before .before .before .before .before .before .before .before .before .before .before .before .before .before in
     refused-answer _ _ _ _ (s .pre .0 .0 ∙ (rw (c .before .number .given .1) at (c .before .before .before .before .before .before .read-rest .ensures (s .args .header))))
 
 enum-told : tie.Need-enum-told
@@ -38,11 +38,11 @@ enum-told c = search needs
 
 plan-net-requires : tie.Need-plan-net-requires
 plan-net-requires c κs =
-    let s = c .before .before .before .before .before .before .before .before .before .before .before .before .before .before .before .before .before .before .before .before .before in
+    let s = c .before .before .before .before .before .before .before .before .before .before .before .before .before .before .before .before .before .before .before .before .before .before .before .before .before in
     let a = s .args in
-    let r = c .before .before .before .before .before .before .before .before .before .before .before .before .before .read-rest in
+    let r = c .before .before .before .before .before .before .before .before .before .before .before .before .before .before .before .read-rest in
     let l = r .last .1 .1 .1 .1 in
-    let h = read-net-holds (a .header) (a .n) (l .0) (l .1 .0) (l .1 .1 .0) _ (read (c .before .before .before .before .before .before .before .before)) (omega (arith, r .kept, s .pre .1)) (omega (arith, r .kept, s .pre .1)) (omega (arith, r .kept, s .pre .1)) in
+    let h = read-net-holds (a .header) (a .n) (l .0) (l .1 .0) (l .1 .1 .0) _ (read (c .before .before .before .before .before .before .before .before .before .before)) (omega (arith, r .kept, s .pre .1)) (omega (arith, r .kept, s .pre .1)) (omega (arith, r .kept, s .pre .1)) in
     (h, omega (arith, r .kept, s .pre .1))
 
 same-length-4 : tie.Need-same-length-4
@@ -69,9 +69,15 @@ same-length-10 c = search needs
 same-length-11 : tie.Need-same-length-11
 same-length-11 c = search needs
 
+same-length-12 : tie.Need-same-length-12
+same-length-12 c = search needs
+
+same-length-13 : tie.Need-same-length-13
+same-length-13 c = search needs
+
 returns-2 : tie.Need-returns-2
 returns-2 c =
-    read-answer _ _ _ _ _ (read (c .before .before .before .before .before .before .before .before .before .before .before .before .before .before .before .before .before .before .before)) (c .before .before .before .before .before .before .before .before .before .before .plan-net .ensures)
+    read-answer _ _ _ _ _ (read (c .before .before .before .before .before .before .before .before .before .before .before .before .before .before .before .before .before .before .before .before .before .before .before .before .before)) (c .before .before .before .before .before .before .before .before .before .before .before .before .before .before .plan-net .ensures)
 
 pub plan-rest-spec : {M : Type 1} → statement M
 plan-rest-spec =
@@ -93,4 +99,6 @@ plan-rest-spec =
     same-length-9
     same-length-10
     same-length-11
+    same-length-12
+    same-length-13
     returns-2)

@@ -1,6 +1,6 @@
 -- `children::count_children` meets its contract. The loop's invariant: each vertex below 2n has its children among 1 to v - 1 counted,
 -- and the length is kept. The measure is what is left of 2n. Assumes nothing.
-use Prim.Native.Nat.{ℕ, _≤_, _<_, _*_, _-_}
+use Prim.Native.Nat.{_≤_, _<_, _*_, _-_}
 use mathlib.Core.Path.{_≡_, refl, ap, _∙_}
 use native.Mathlib.Omega.{arith}
 use lib.ListN.{length, getD, length-set}

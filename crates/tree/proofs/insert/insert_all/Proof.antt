@@ -1,131 +1,147 @@
--- `insert::insert_all` meets its contract. The loop's invariant: for every net that is ready the arrays are those after k insertions, and the lengths are kept.
--- The measure is what is left of n. Assumes nothing.
-use Prim.Native.Nat.{ℕ, suc, _-_, _<_}
-use mathlib.Core.Path.{_≡_, refl, sym, _∙_, subst}
-use native.Mathlib.Omega.{arith}
+-- All insertions: before each the arrays hold the tree so far, its order and its numbers; at the end the order is written out.
 use native.Mathlib.Numerals.{add-one}
-use lib.ListN.{length, getD, set, length-set}
-use lib.IntN.{pos}
-use mir.Facts.{toZ-ofZ}
-use Rattle.quantities.specs.Linear.{fit, rd}
+use Prim.Native.Nat.{ℕ, suc, _+_, _*_, _-_, _<_}
+use mathlib.Core.Path.{_≡_, refl, sym, _∙_, subst}
+use mathlib.Core.List.{List, [], _∷_}
+use native.Mathlib.Omega.{arith}
+use borrow.Author.Needs.{needs}
+use lib.ListN.{length, getD}
 use Rattle.tree.specs.Net.{Net}
-use Rattle.tree.specs.Insertion.{Ready, Inserted}
-use Rattle.tree.proofs.Laws.Inserting.{some-sink, sink-in, insert-first, inserted-slacks, insert-end}
+use Rattle.tree.specs.Arrays.{Chained}
+use Rattle.tree.specs.Insertion.{Ready, Lined, Placed, Inserted, Leveled, Gathered}
+use Rattle.tree.proofs.Laws.Inserting.{insert-first, chain-first, first-leveled, first-gathered, last-parents, last-order, last-slacks}
+use Rattle.tree.proofs.Laws.NetArrays.{few-sinks, line-in}
+use Rattle.tree.proofs.Laws.Regathering.{place-in}
+use Rattle.tree.proofs.Laws.Upward.{leaves-same}
 use Rattle.tree.proofs.insert.insert_all.Statement.{statement}
 use Rattle.tree.proofs.insert.insert_all.Tie as tie
 
 abbrev Inv-loop : tie.InvT-loop
-Inv-loop h n own sinks slacks₀ parents₀ first worst₀ k₀ slacks parents worst k =
-    (k < n) × (length slacks ≡ length slacks₀) × (length parents ≡ length parents₀) × ((N : Net) → Ready N h n own sinks → Inserted N k slacks parents (worst .0))
+Inv-loop branch n xs ys own sinks levels₀ slacks₀ parents₀ below₀ k₀ levels slacks parents below k =
+    (k < n) × (length levels ≡ length levels₀) × (length slacks ≡ length slacks₀) × (length parents ≡ length parents₀) × (length below ≡ length below₀)
+    × ((N : Net) → Ready N (branch .0) n own → Lined N n sinks → Placed N n xs ys → (us : List ℕ) × Inserted N k parents us × Chained (2 * k + 1) us below × Leveled N k levels × Gathered N k slacks)
 
 abbrev μ-loop : tie.MeasureT-loop
-μ-loop h n own sinks slacks₀ parents₀ first worst₀ k₀ slacks parents worst k = n - k
+μ-loop branch n xs ys own sinks levels₀ slacks₀ parents₀ below₀ k₀ levels slacks parents below k = n - k
 
-mul-clear : tie.Need-mul-clear Inv-loop μ-loop
-mul-clear c = omega arith
+shared-slice-read-insert-first : tie.Need-shared-slice-read-insert-first Inv-loop μ-loop
+shared-slice-read-insert-first c = let r = c .before .before .before .before .before .pre .0 .1 in omega (arith, few-sinks (r .0), r .1 .long)
 
-clear-requires : tie.Need-clear-requires Inv-loop μ-loop
-clear-requires c κs = omega arith
-
-none-in-requires : tie.Need-none-in-requires Inv-loop μ-loop
-none-in-requires c κs = omega arith
-
-shared-slice-read-first : tie.Need-shared-slice-read-first Inv-loop μ-loop
-shared-slice-read-first c =
-    let R = c .before .before .before .before .before .before .before .before .before .before .pre .0 .1 in
-    omega (arith, some-sink R)
-
-mul-slacks : tie.Need-mul-slacks Inv-loop μ-loop
-mul-slacks c =
-    let R = c .before .before .before .before .before .before .before .before .before .before .pre .0 .1 in
-    omega (arith, sink-in R 0 (some-sink R .0))
-
-shared-slice-copy-out-slacks : tie.Need-shared-slice-copy-out-slacks Inv-loop μ-loop
-shared-slice-copy-out-slacks c =
-    let R = c .before .before .before .before .before .before .before .before .before .before .pre .0 .1 in
-    omega (arith, sink-in R 0 (some-sink R .0))
-
-mul-of : tie.Need-mul-of Inv-loop μ-loop
-mul-of c =
-    let R = c .before .before .before .before .before .before .before .before .before .before .before .pre .0 .1 in
-    omega (arith, sink-in R 0 (some-sink R .0))
-
-slice-set-from-of : tie.Need-slice-set-from-of Inv-loop μ-loop
-slice-set-from-of c =
-    let R = c .before .before .before .before .before .before .before .before .before .before .before .pre .0 .1 in
-    omega (arith, sink-in R 0 (some-sink R .0))
-
-mul-of-2 : tie.Need-mul-of-2 Inv-loop μ-loop
-mul-of-2 c =
-    let R = c .before .before .before .before .before .before .before .before .before .before .before .pre .0 .1 in
-    omega (arith, sink-in R 0 (some-sink R .0))
-
-shared-slice-copy-out-of : tie.Need-shared-slice-copy-out-of Inv-loop μ-loop
-shared-slice-copy-out-of c =
-    let R = c .before .before .before .before .before .before .before .before .before .before .before .pre .0 .1 in
-    omega (arith, sink-in R 0 (some-sink R .0))
-
-of-requires : tie.Need-of-requires Inv-loop μ-loop
-of-requires c κs = tt
+insert-first-requires : tie.Need-insert-first-requires Inv-loop μ-loop
+insert-first-requires c κs =
+    let p = c .before .before .before .before .before .before .before .before .before .pre in
+    let r = p .0 .1 in
+    omega (arith, few-sinks (r .0), p .1, r .0 .own-long, line-in (r .1) (r .0 .size-is) 0 (few-sinks (r .0) .0))
 
 loop-holds : tie.Need-loop-holds Inv-loop μ-loop
 loop-holds c =
-    let s = c .before .before .before .before .before .before .before .before .before .before .before .before .before in
-    let a = s .args in
+    let a = c .before .before .before .before .before .before .before .before .before .before .before .before .before .before .before .before .before .args in
+    let p = c .before .before .before .before .before .before .before .before .before .before .before .before .before .before .before .before .before .pre in
+    let r = p .0 .1 in
+    let f = c .before .before .before .before .before .before .before .insert-first in
+    let e = f .ensures in
     let first = getD (a .sinks .now) 0 0 in
-    let mine = getD (a .own .now) first (pos 0) in
-    let empty = c .before .before .before .before .before .none-in in (
-      omega (arith, some-sink (s .pre .0 .1)),
+    let small = line-in (r .1) (r .0 .size-is) 0 (few-sinks (r .0) .0) in
+    let l : first < length (a .levels .now) = omega (arith, p .1, small, few-sinks (r .0)) in
+    let s : first < length (a .slacks .now) = omega (arith, p .1, small, few-sinks (r .0)) in
+    let b : first < length (a .below .now) = omega (arith, p .1, small, few-sinks (r .0)) in (
+      omega (arith, few-sinks (r .0)),
       refl,
       refl,
-      λ N R. subst (Inserted N 0 (set (empty .last .0) first (rd mine)) (c .before .before .before .before .before .before .before .before .before .clear .last .0)) (sym (c .of .ensures))
-          (insert-first R (empty .last .0) (c .before .before .before .before .before .before .before .before .before .clear .last .0) (rd mine) (omega (arith, empty .kept .0)) (empty .ensures) (c .before .before .before .before .before .before .before .before .before .clear .ensures) (toZ-ofZ (fit mine (c .before .of-arg .given)))),
+      refl,
+      refl,
+      λ N R L W. (
+        first ∷ [],
+        insert-first R L (f .last .1 .1 .1 .1 .1 .0) (first ∷ []) (e .1 .1 .0) refl,
+        chain-first (a .below .now) first (small .0) b (e .1 .1 .1),
+        first-leveled R L (a .levels .now) (a .slacks .now) refl l s (e .0) (e .1 .0),
+        first-gathered R L (a .levels .now) (a .slacks .now) refl l s (e .0) (e .1 .0),
+      ),
     )
 
 add-loop : tie.Need-add-loop Inv-loop μ-loop
-add-loop c = omega arith
+add-loop c = search needs
 
 insert-next-requires : tie.Need-insert-next-requires Inv-loop μ-loop
 insert-next-requires c κs =
-    let s = c .before .before .before .before .before .before .before .before .before .before .before .before .before .before .before .before .before in
-    let a = s .args in
-    let first = getD (a .sinks .now) 0 0 in
-    let R = s .pre .0 .1 in
-    let l = c .before .before .before .loop in
-    let empty = c .before .before .before .before .before .before .before .before .before .none-in in
-    ((s .pre .0 .0, (R, l .inv .3 (s .pre .0 .0) R)), omega (arith, l .inv .1, l .inv .2, c .before .before .before .before .before .before .before .before .before .before .before .before .before .clear .kept .0, empty .kept .0, length-set (empty .last .0) first (rd (getD (a .own .now) first (pos 0)))))
+    let p = c .before .before .before .before .before .before .before .before .before .before .before .before .before .before .before .before .before .before .before .before .before .before .before .pre in
+    let r = p .0 .1 in
+    let l = c .before .before .before .before .before .loop in
+    let i = l .inv .5 (p .0 .0) (r .0) (r .1) (r .2) in
+    ((p .0 .0, i .0, (r .0, r .1, r .2, i .1, i .2, i .3, i .4)), omega (arith, p .1, l .inv .1, l .inv .2, l .inv .3, l .inv .4, c .before .before .before .before .before .before .before .before .before .before .before .before .before .insert-first .kept))
 
 add-k : tie.Need-add-k Inv-loop μ-loop
-add-k c = omega arith
+add-k c = let l = c .before .before .before .before .before .before .before .before .before .before .before .before .before .loop in omega (arith, l .inv .0, few-sinks (c .before .before .before .before .before .before .before .before .before .before .before .before .before .before .before .before .before .before .before .before .before .before .before .before .before .before .before .before .before .before .before .pre .0 .1 .0))
 
 loop-less : tie.Need-loop-less Inv-loop μ-loop
-loop-less c = omega arith
+loop-less c = search needs
 
 loop-again : tie.Need-loop-again Inv-loop μ-loop
 loop-again c =
-    let l = c .before .before .before .before .before .before .before .loop in
-    let r = c .before .before .before .insert-next in (
-      omega arith,
-      r .kept .1 .1 .1 .1 .1 .0 ∙ l .inv .1,
-      r .kept .1 .1 .1 .1 .1 .1 .0 ∙ l .inv .2,
-      λ N R. subst (λ (j : ℕ). Inserted N j (r .last .1 .1 .1 .1 .1 .0) (r .last .1 .1 .1 .1 .1 .1 .0) (r .result .0)) (sym (add-one (l .k))) (r .ensures N R (l .inv .3 N R)),
+    let l = c .before .before .before .before .before .before .before .before .before .before .before .before .before .loop in
+    let m = c .before .before .before .before .before .before .before .insert-next in (
+      omega (arith, c .before .before .before .before .before .before .before .before .before .before .before .before .loop-test .taken),
+      m .kept .1 .1 .1 .1 .1 .1 .1 .0 ∙ l .inv .1,
+      m .kept .1 .1 .1 .1 .1 .1 .1 .1 .0 ∙ l .inv .2,
+      m .kept .1 .1 .1 .1 .1 .1 .1 .1 .1 .0 ∙ l .inv .3,
+      m .kept .1 .1 .1 .1 .1 .1 .1 .1 .1 .1 .0 ∙ l .inv .4,
+      λ N R L W.
+          let i = l .inv .5 N R L W in
+          let n = m .ensures N (i .0) R L W (i .1) (i .2) (i .3) (i .4) in
+          let e = sym (add-one (l .k)) in (
+            n .0,
+            subst (λ (j : ℕ). Inserted N j (m .last .1 .1 .1 .1 .1 .1 .1 .1 .1 .0) (n .0)) e (n .1),
+            subst (λ (j : ℕ). Chained (2 * j + 1) (n .0) (m .last .1 .1 .1 .1 .1 .1 .1 .1 .1 .1 .0)) e (n .2),
+            subst (λ (j : ℕ). Leveled N j (m .last .1 .1 .1 .1 .1 .1 .1 .0)) e (n .3),
+            subst (λ (j : ℕ). Gathered N j (m .last .1 .1 .1 .1 .1 .1 .1 .1 .0)) e (n .4),
+          ),
+    )
+
+mul-write-out : tie.Need-mul-write-out Inv-loop μ-loop
+mul-write-out c = omega (arith, few-sinks (c .before .before .before .before .before .before .before .before .before .before .before .before .before .before .before .before .before .before .before .before .pre .0 .1 .0))
+
+sub-write-out : tie.Need-sub-write-out Inv-loop μ-loop
+sub-write-out c = omega (arith, few-sinks (c .before .before .before .before .before .before .before .before .before .before .before .before .before .before .before .before .before .before .before .before .pre .0 .1 .0))
+
+write-out-requires : tie.Need-write-out-requires Inv-loop μ-loop
+write-out-requires c κs =
+    let a = c .before .before .before .before .before .before .before .before .before .before .before .before .before .before .before .before .before .before .before .before .before .args in
+    let p = c .before .before .before .before .before .before .before .before .before .before .before .before .before .before .before .before .before .before .before .before .before .pre in
+    let r = p .0 .1 in
+    let l = c .before .before .before .loop in
+    let i = l .inv .5 (p .0 .0) (r .0) (r .1) (r .2) in
+    let m : 2 * l .k + 1 ≡ 2 * a .n - 1 = omega arith in (
+      (i .0, subst (λ (z : ℕ). Chained z (i .0) (l .below)) m (i .2), λ h q. omega (arith, place-in (r .0) (i .1) (l .inv .0) h (omega arith), p .1, l .inv .4, c .before .before .before .before .before .before .before .before .before .before .before .insert-first .kept)),
+      omega (arith, p .1, few-sinks (r .0), l .inv .1, l .inv .4, c .before .before .before .before .before .before .before .before .before .before .before .insert-first .kept),
     )
 
 same-length : tie.Need-same-length Inv-loop μ-loop
-same-length c =
-    let a = c .before .before .before .before .before .before .before .before .before .before .before .before .before .before .before .args in
-    let first = getD (a .sinks .now) 0 0 in
-    let empty = c .before .before .before .before .before .before .before .none-in in
-    c .before .loop .inv .1 ∙ length-set (empty .last .0) first (rd (getD (a .own .now) first (pos 0))) ∙ empty .kept .0
+same-length c = c .before .before .write-out .kept .1 .1 .0 ∙ c .before .before .before .before .before .before .loop .inv .1 ∙ c .before .before .before .before .before .before .before .before .before .before .before .before .before .before .insert-first .kept .1 .1 .1 .0
 
 same-length-2 : tie.Need-same-length-2 Inv-loop μ-loop
-same-length-2 c = c .before .loop .inv .2 ∙ c .before .before .before .before .before .before .before .before .before .before .before .clear .kept .0
+same-length-2 c = c .before .before .before .before .before .before .loop .inv .2 ∙ c .before .before .before .before .before .before .before .before .before .before .before .before .before .before .insert-first .kept .1 .1 .1 .1 .0
+
+same-length-3 : tie.Need-same-length-3 Inv-loop μ-loop
+same-length-3 c = c .before .before .before .before .before .before .loop .inv .3 ∙ c .before .before .before .before .before .before .before .before .before .before .before .before .before .before .insert-first .kept .1 .1 .1 .1 .1 .0
+
+same-length-4 : tie.Need-same-length-4 Inv-loop μ-loop
+same-length-4 c = c .before .before .before .before .before .before .loop .inv .4 ∙ c .before .before .before .before .before .before .before .before .before .before .before .before .before .before .insert-first .kept .1 .1 .1 .1 .1 .1 .0
 
 returns : tie.Need-returns Inv-loop μ-loop
 returns c =
-    let l = c .before .loop in
-    let done : c .before .before .before .before .before .before .before .before .before .before .before .before .before .before .before .args .n ≡ suc (l .k) = omega arith in
-    ((λ N R. insert-end R (l .inv .3 N R) done .0), ((λ N R. insert-end R (l .inv .3 N R) done .1), λ N R s s1 sn. inserted-slacks R (l .inv .3 N R) done s s1 sn))
+    let a = c .before .before .before .before .before .before .before .before .before .before .before .before .before .before .before .before .before .before .before .before .before .before .before .before .args in
+    let p = c .before .before .before .before .before .before .before .before .before .before .before .before .before .before .before .before .before .before .before .before .before .before .before .before .pre in
+    let r = p .0 .1 in
+    let l = c .before .before .before .before .before .before .loop in
+    let done : a .n ≡ suc (l .k) = omega arith in
+    let i = l .inv .5 (p .0 .0) (r .0) (r .1) (r .2) in
+    let m : 2 * l .k + 1 ≡ 2 * a .n - 1 = omega arith in (
+      (λ N R L W. last-parents R (l .inv .5 N R L W .1) done),
+      (
+        leaves-same (last-order (r .0) (i .1) done) (c .before .before .write-out .ensures (i .0) (subst (λ (z : ℕ). Chained z (i .0) (l .below)) m (i .2))),
+        λ N R L W. last-slacks R (l .inv .5 N R L W .1) done (l .inv .5 N R L W .4),
+      ),
+    )
 
 pub insert-all-spec : {M : Type 1} → statement M
 insert-all-spec =
@@ -133,23 +149,19 @@ insert-all-spec =
     (tie.spec
     Inv-loop
     μ-loop
-    mul-clear
-    clear-requires
-    none-in-requires
-    shared-slice-read-first
-    mul-slacks
-    shared-slice-copy-out-slacks
-    mul-of
-    slice-set-from-of
-    mul-of-2
-    shared-slice-copy-out-of
-    of-requires
+    shared-slice-read-insert-first
+    insert-first-requires
     loop-holds
     add-loop
     insert-next-requires
     add-k
     loop-less
     loop-again
+    mul-write-out
+    sub-write-out
+    write-out-requires
     same-length
     same-length-2
+    same-length-3
+    same-length-4
     returns)

@@ -1,28 +1,17 @@
--- `insert::insert_next` meets its contract: what it calls makes the arrays of one insertion more. What the calls require comes from the one net that is given.
--- Assumes nothing.
-use Prim.Native.Nat.{_+_, _≤_}
-use lib.ListN.{getD}
+-- One insertion: the edge that the search finds is the chosen one, so the arrays hold the next tree, its order and its numbers.
+use Prim.Native.Nat.{ℕ, _+_, _*_, _<_}
+use mathlib.Core.Path.{refl, ap}
+use mathlib.Core.Logic.{inl, inr}
 use native.Mathlib.Omega.{arith}
+use lib.ListN.{length, getD}
+use Rattle.quantities.specs.Linear.{whole}
+use Rattle.quantities.specs.Reach.{Within, termReach}
+use Rattle.tree.proofs.Laws.Inserting.{points-within, end-within, end-place, s-next, splits-next, next-order}
+use Rattle.tree.proofs.Laws.NetArrays.{branch-within, few-sinks, line-in}
+use Rattle.tree.proofs.Laws.Regathering.{place-in, parent-in}
 use borrow.Author.Needs.{needs}
-use mathlib.Core.Path.{refl}
-use Rattle.tree.proofs.Laws.Inserting.{branch-within, sink-in, own-slack-within, place-within, insert-step}
 use Rattle.tree.proofs.insert.insert_next.Statement.{statement}
 use Rattle.tree.proofs.insert.insert_next.Tie as tie
-
-choose-requires : tie.Need-choose-requires
-choose-requires c κs =
-    let p = c .before .before .before .before .pre in
-    let R = p .0 .1 .0 in
-    let I = p .0 .1 .1 in
-    ((omega arith, omega arith, branch-within R), λ u from to. place-within R I u (omega arith) from (omega arith))
-
-score-of-requires : tie.Need-score-of-requires
-score-of-requires c κs =
-    let p = c .before .before .before .before .before .before .pre in
-    let R = p .0 .1 .0 in
-    let I = p .0 .1 .1 in
-    let v = c .before .choose in
-    (omega (arith, v .ensures .to), place-within R I (v .result) (omega arith) (v .ensures .from) (omega (arith, v .ensures .to)), branch-within R)
 
 add-s : tie.Need-add-s
 add-s c = search needs
@@ -33,31 +22,61 @@ mul-s c = search needs
 shared-slice-read-s : tie.Need-shared-slice-read-s
 shared-slice-read-s c = search needs
 
+choose-requires : tie.Need-choose-requires
+choose-requires c κs =
+    let a = c .before .before .before .before .before .before .args in
+    let p = c .before .before .before .before .before .before .pre in
+    let r = p .0 .2 in
+    let b : Within termReach (a .branch .0) = branch-within (r .0) in
+    let kn = p .1 .0 in (
+      (few-sinks (r .0) .1, omega arith, line-in (r .1) (r .0 .size-is) (a .k + 1) (omega arith) .1, r .2 .xs-long, r .2 .ys-long, omega (arith, r .1 .long), omega (arith, p .1), omega (arith, whole)),
+      (
+        points-within (r .0 .in-range) (r .0 .size-is) (r .2),
+        (
+          (λ i l. (line-in (r .1) (r .0 .size-is) i (omega arith) .1, end-within (r .0) (r .1) (r .2) (r .3) (r .6) kn (getD (a .sinks .now) i 0) (inl (i, l, refl)))),
+          λ b l h. end-within (r .0) (r .1) (r .2) (r .3) (r .6) kn b (inr (l, h)),
+        ),
+      ),
+    )
+
+regather-requires : tie.Need-regather-requires
+regather-requires c κs =
+    let p = c .before .before .before .before .before .before .before .before .before .before .before .pre in
+    let r = p .0 .2 in
+    let best = c .before .before .before .before .choose .ensures in
+    ((p .0 .0, p .0 .1, (r .0, r .3, r .4, r .5, r .6, s-next (r .0) (r .1) (r .2) (r .3) (r .6) (p .1 .0) refl best, splits-next (r .0) (r .1) (r .2) (r .3) (r .6) (p .1 .0) refl best .0)), omega (arith, p .1))
+
+-- v and its parent are vertices
+in-tree : (c : tie.After-choose) → (c .choose .result < 2 * c .before .before .before .before .before .before .before .args .n) × (getD (c .before .before .before .before .before .before .before .args .parents .now) (c .choose .result) 0 < 2 * c .before .before .before .before .before .before .before .args .n)
+in-tree c =
+    let p = c .before .before .before .before .before .before .before .pre in
+    let r = p .0 .2 in
+    let w = end-place (r .0) (r .1) (r .2) (r .3) (r .6) (p .1 .0) refl (c .choose .ensures) in
+    (omega (arith, place-in (r .0) (r .3) (omega arith) (w .0) (w .1), w .2), omega (arith, parent-in (r .0) (r .3) (omega arith) (w .0) (w .1), ap (λ (z : ℕ). getD (c .before .before .before .before .before .before .before .args .parents .now) z 0) (w .2)))
+
+mul-put-before : tie.Need-mul-put-before
+mul-put-before c = omega (arith, in-tree (c .before .before .before .before .before .before .before .before .before), few-sinks (c .before .before .before .before .before .before .before .before .before .before .before .before .before .before .before .before .pre .0 .2 .0))
+
+slice-read-put-before : tie.Need-slice-read-put-before
+slice-read-put-before c = omega (arith, in-tree (c .before .before .before .before .before .before .before .before .before .before), c .before .before .before .before .before .before .before .before .before .before .before .before .before .before .before .before .before .pre .1)
+
+add-put-before : tie.Need-add-put-before
+add-put-before c = omega (arith, c .before .before .before .before .before .before .before .before .before .before .before .before .before .before .before .before .before .pre .1, few-sinks (c .before .before .before .before .before .before .before .before .before .before .before .before .before .before .before .before .before .pre .0 .2 .0))
+
+add-put-before-2 : tie.Need-add-put-before-2
+add-put-before-2 c = omega (arith, c .before .before .before .before .before .before .before .before .before .before .before .before .before .before .before .before .before .pre .1, few-sinks (c .before .before .before .before .before .before .before .before .before .before .before .before .before .before .before .before .before .pre .0 .2 .0))
+
+put-before-requires : tie.Need-put-before-requires
+put-before-requires c κs = let p = c .before .before .before .before .before .before .before .before .before .before .before .before .before .before .before .before .before .pre in let r = p .0 .2 in omega (arith, p .1, in-tree (c .before .before .before .before .before .before .before .before .before .before), line-in (r .1) (r .0 .size-is) (c .before .before .before .before .before .before .before .before .before .before .before .before .before .before .before .before .before .args .k + 1) (omega arith))
+
 add-split-edge : tie.Need-add-split-edge
-add-split-edge c = search needs
+add-split-edge c = omega (arith, c .before .before .before .before .before .before .before .before .before .before .before .before .before .before .before .before .before .before .before .before .before .pre .1, few-sinks (c .before .before .before .before .before .before .before .before .before .before .before .before .before .before .before .before .before .before .before .before .before .pre .0 .2 .0))
 
 add-split-edge-2 : tie.Need-add-split-edge-2
-add-split-edge-2 c = search needs
+add-split-edge-2 c = omega (arith, c .before .before .before .before .before .before .before .before .before .before .before .before .before .before .before .before .before .before .before .before .before .pre .1, few-sinks (c .before .before .before .before .before .before .before .before .before .before .before .before .before .before .before .before .before .before .before .before .before .pre .0 .2 .0))
 
 split-edge-requires : tie.Need-split-edge-requires
-split-edge-requires c κs =
-    let s = c .before .before .before .before .before .before .before .before .before in
-    let p = s .pre in
-    let R = p .0 .1 .0 in
-    let I = p .0 .1 .1 in
-    let v = c .before .before .before .before .choose in
-    omega (arith, v .ensures .from, v .ensures .to, sink-in R (s .args .k + 1) (omega arith))
-
-deepen-requires : tie.Need-deepen-requires
-deepen-requires c κs =
-    let s = c .before .before .before .before .before .before .before .before .before .before .before .before .before in
-    let R = s .pre .0 .1 .0 in
-    let I = s .pre .0 .1 .1 in
-    let v = c .before .before .before .before .before .before .before .before .choose in
-    let from = v .ensures .from in
-    let to : v .result ≤ s .args .n = omega (arith, v .ensures .to) in
-    let t = sink-in R (s .args .k + 1) (omega arith) in
-    (omega arith, (branch-within R, place-within R I (v .result) (omega arith) from to, own-slack-within R (v .result) from to, own-slack-within R (getD (s .args .sinks .now) (s .args .k + 1) 0) (t .0) (t .1)))
+split-edge-requires c κs = let p = c .before .before .before .before .before .before .before .before .before .before .before .before .before .before .before .before .before .before .before .before .before .pre in let r = p .0 .2 in omega (arith, p .1, in-tree (c .before .before .before .before .before .before .before .before .before .before .before .before .before .before), line-in (r .1) (r .0 .size-is) (c .before .before .before .before .before .before .before .before .before .before .before .before .before .before .before .before .before .before .before .before .before .args .k + 1) (omega arith))
 
 same-length : tie.Need-same-length
 same-length c = search needs
@@ -65,28 +84,41 @@ same-length c = search needs
 same-length-2 : tie.Need-same-length-2
 same-length-2 c = search needs
 
+same-length-3 : tie.Need-same-length-3
+same-length-3 c = search needs
+
+same-length-4 : tie.Need-same-length-4
+same-length-4 c = search needs
+
 returns : tie.Need-returns
-returns c N R I =
-    let s = c .before .before .before .before .before .before .before .before .before .before .before .before .before .before .before in
-    let a = s .args in
-    insert-step R I (omega arith) (c .before .before .before .before .before .before .before .before .before .before .choose .ensures)
-    (c .before .deepen .last .1 .0) (c .before .before .before .before .before .split-edge .last .0) (c .before .before .before .before .before .before .before .before .score-of .result .0)
-    (getD (a .sinks .now) (a .k + 1) 0) (a .n + a .k + 1) (omega arith) (omega arith) refl refl
-    (c .before .before .before .before .before .split-edge .ensures) (c .before .deepen .ensures) (c .before .before .before .before .before .before .before .before .score-of .ensures)
+returns c =
+    let a = c .before .before .before .before .before .before .before .before .before .before .before .before .before .before .before .before .before .before .before .before .before .before .before .before .args in
+    let p = c .before .before .before .before .before .before .before .before .before .before .before .before .before .before .before .before .before .before .before .before .before .before .before .before .pre in
+    let best = c .before .before .before .before .before .before .before .before .before .before .before .before .before .before .before .before .before .choose .ensures in
+    λ N us R L W I C A G.
+    let n = c .before .before .before .before .before .before .before .before .before .before .before .before .regather .ensures N us R I C A G (s-next R L W I G (p .1 .0) refl best) (splits-next R L W I G (p .1 .0) refl best) in
+    let o = next-order R L W I G (p .1 .0) refl best (a .below .now) refl (p .1 .3) (p .1 .4) C (c .before .before .split-edge .ensures) (c .before .before .before .before .before .before .put-before .ensures) in
+    (o .0, o .1, o .2, n .0, n .1)
 
 pub insert-next-spec : {M : Type 1} → statement M
 insert-next-spec =
     tie.close
     (tie.spec
-    choose-requires
-    score-of-requires
     add-s
     mul-s
     shared-slice-read-s
+    choose-requires
+    regather-requires
+    mul-put-before
+    slice-read-put-before
+    add-put-before
+    add-put-before-2
+    put-before-requires
     add-split-edge
     add-split-edge-2
     split-edge-requires
-    deepen-requires
     same-length
     same-length-2
+    same-length-3
+    same-length-4
     returns)

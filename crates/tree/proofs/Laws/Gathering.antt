@@ -1,0 +1,68 @@
+-- Numbers are gathered where each is the least slack under its vertex and the root's is the worst: the rest follows. Assumes nothing.
+use Prim.Native.Nat.{ℕ, suc, _+_, _*_, _≤_, _<_}
+use mathlib.Core.Path.{_≡_, sym, ap, _∙_, subst}
+use mathlib.Core.Logic.{_≢_}
+use mathlib.Core.List.{List}
+use native.Mathlib.Nat.{mul-le-mul}
+use native.Mathlib.Omega.{arith}
+use lib.ListN.{getD}
+use lib.IntN.{ℤ, pos}
+use Rattle.quantities.specs.Linear.{whole, -is}
+use Rattle.quantities.specs.Reach.{Within, termReach}
+use Rattle.tree.specs.Lists.{count, down}
+use Rattle.tree.specs.Net.{Net, size, sinkAt, required, delay, ownSlack}
+use Rattle.tree.specs.Tree.{parentOf}
+use Rattle.tree.specs.Measures.{slack, worstOver}
+use Rattle.tree.specs.Planning.{tieRule, parentsAfter}
+use Rattle.tree.specs.Limits.{branchLimit, requiredLimit, InRange}
+use Rattle.tree.specs.Insertion.{Gathered, InTree, sinksIn, treeAfter}
+use Rattle.tree.proofs.Laws.Growing.{PartTree}
+use Rattle.tree.proofs.Laws.Insertion.{Least}
+use Rattle.tree.proofs.Laws.KraftSums.{depthIn}
+use Rattle.tree.proofs.Laws.Measuring.{delayLimit, delay-limit}
+use Rattle.tree.proofs.Laws.Scores.{edge-score}
+use Rattle.tree.proofs.Laws.Steps.{inserted, nextSink, order-in, next-fresh, inserted-rising, inserted-in}
+use Rattle.tree.proofs.Laws.TreeAfter.{g, t, inserted-count, to-vertex, slack-is, worst-least, enlarged, to-under, from-under}
+use Rattle.tree.proofs.Laws.Under.{under-sink}
+use Rattle.tree.proofs.Laws.Walks.{hops-le}
+use Rattle.tree.proofs.Laws.WorstAfter.{LeastBelow, before}
+
+-- the least under a sink is its own
+sink-least : {N : ℕ} {S : List ℕ} {k F : ℕ} {p : ℕ → ℕ} (t : PartTree N S k F p) {f : ℕ → ℤ} (v : ℕ) (w : ℤ) → count v S ≢ 0 → LeastBelow p F v S f w → w ≡ f v
+sink-least t {f} v w m l = sym (l .is) ∙ ap f (under-sink t v (l .at) m (omega (arith, l .in-list)) (l .under))
+
+module _ (N : Net) (c1 : 0 < N .branch) (k : ℕ) (kN : k < size N) where
+  pub gathered-if : (slacks : List ℤ)
+      → ((v : ℕ) → count v (inserted N k) + count v (down (size N) k) ≢ 0 → LeastBelow (parentOf (parentsAfter tieRule N k)) (2 * k + 1) v (inserted N k) (before N k (parentsAfter tieRule N k)) (getD slacks v (pos 0)))
+      → getD slacks 0 (pos 0) ≡ worstOver N (treeAfter N k) (sinksIn N k) → Gathered N k slacks
+  gathered-if slacks least worst = record {
+    sinks-are = λ s m. let i : count s (inserted N k) ≢ 0 = omega (arith, inserted-count N c1 k kN s) in sink-least (t N c1 k kN) s (getD slacks s (pos 0)) i (least s (omega arith)) ∙ sym (slack-is N c1 k kN s i);
+    least = λ v h. let x = to-vertex N c1 k kN v h in to-under N c1 k kN v (getD slacks v (pos 0)) x (least v x);
+    worst = worst;
+    tries = λ kS v h. let x = to-vertex N c1 k kN v h in
+        sym (edge-score N c1 (g N c1 k kN) (nextSink N k) (order-in N (suc k) kS .0) (order-in N (suc k) kS .1) (next-fresh N k kS) kS (inserted-rising N k kS) v x (getD slacks 0 (pos 0)) (getD slacks v (pos 0)) all (least v x))
+        ∙ enlarged N c1 k kN kS v;
+  }
+    where
+      all : Least (inserted N k) (before N k (parentsAfter tieRule N k)) (getD slacks 0 (pos 0))
+      all = subst (Least (inserted N k) (before N k (parentsAfter tieRule N k))) (sym worst) (worst-least N c1 k kN)
+
+-- ---- ranges
+
+module _ (N : Net) (R : InRange N) where
+  slack-within : (k : ℕ) (P : List ℕ) (s : ℕ) → k < size N → 1 ≤ s → s ≤ size N → Within termReach (before N k P s)
+  slack-within k P s kN s1 sN =
+      let d : ℕ = depthIn (2 * k + 1) (parentOf P) s in
+      let deep : d ≤ 1023 = omega (arith, hops-le (parentOf P) (2 * k + 1) (parentOf P s), R .sinks) in
+      let cost : d * N .branch ≤ 1023 * branchLimit = mul-le-mul deep (R .branch .1) in
+      let far : delay (N .wire) (N .root) (sinkAt N s) ≤ delayLimit = delay-limit (N .wire) _ _ (R .wire .1) (R .root) (R .at s s1 sN) in
+      let q : Within requiredLimit (required N s) = R .required s s1 sN in
+      omega (arith, whole, -is (ownSlack N s) (pos (d * N .branch)), -is (required N s) (pos (delay (N .wire) (N .root) (sinkAt N s))))
+
+  -- what is gathered is in range
+  pub gathered-within : (k : ℕ) → k < size N → {slacks : List ℤ} → Gathered N k slacks → (v : ℕ) → InTree N k v → Within termReach (getD slacks v (pos 0))
+  gathered-within k kN {slacks} G v h =
+      let c1 : 0 < N .branch = R .branch .0 in
+      let b : LeastBelow (parentOf (parentsAfter tieRule N k)) (2 * k + 1) v (inserted N k) (before N k (parentsAfter tieRule N k)) (getD slacks v (pos 0)) = from-under N c1 k kN v (getD slacks v (pos 0)) (to-vertex N c1 k kN v h) (G .least v h) in
+      let y : (1 ≤ b .at) × (b .at ≤ size N) = inserted-in N k kN (b .at) (b .in-list) in
+      subst (Within termReach) (b .is) (slack-within k (parentsAfter tieRule N k) (b .at) kN (y .0) (y .1))

@@ -1,0 +1,138 @@
+-- The tree after k insertions: its vertices, slacks and paths, by the laws' terms and by the definitions'. Assumes nothing.
+use Prim.Native.Nat.{ℕ, suc, _+_, _*_, _-_, _≤_, _<_}
+use mathlib.Core.Path.{_≡_, refl, sym, ap, _∙_, subst}
+use mathlib.Core.Logic.{_≢_, _⊎_, inl, inr}
+use mathlib.Core.List.{List, [], _∷_, map}
+use native.Mathlib.Omega.{arith}
+use lib.ListN.{length, getD, take, drop, take-append-drop, length-take}
+use lib.IntN.{ℤ}
+use lib.Signed.{_≤ℤ_}
+use Rattle.tree.specs.Lists.{count, down, least}
+use Rattle.tree.specs.Net.{Net, size, ownSlack}
+use Rattle.tree.specs.Tree.{parentOf}
+use Rattle.tree.specs.Measures.{path, slack, worstOver}
+use Rattle.tree.specs.Planning.{order, unsettled, split, tieRule, worstAfter, parentsAfter}
+use Rattle.tree.specs.Insertion.{Inserted, LeastUnder, InTree, sinksIn, treeAfter}
+use Rattle.tree.proofs.Laws.Arrays.{parents-at}
+use Rattle.tree.proofs.Laws.AnySplit.{meet}
+use Rattle.tree.proofs.Laws.Growing.{PartTree}
+use Rattle.tree.proofs.Laws.Insertion.{Least, Grown}
+use Rattle.tree.proofs.Laws.Planning.{least-law, count-append, order-length}
+use Rattle.tree.proofs.Laws.Scores.{before-is}
+use Rattle.tree.proofs.Laws.SinkEdge.{in-pos}
+use Rattle.tree.proofs.Laws.Steps.{newest-count, inserted, nextSink, inserted-in, grown-at}
+use Rattle.tree.proofs.Laws.Sums.{equal?, down-in}
+use Rattle.tree.proofs.Laws.Under.{path-meet, path-hops, meet-add}
+use Rattle.tree.proofs.Laws.Walks.{hops, hops-add}
+use Rattle.tree.proofs.Laws.WorstAfter.{LeastBelow, least-one, before}
+
+-- ---- the least of a list: nothing but its elements matters
+
+pub least-of : (f : ℕ → ℤ) (l : List ℕ) → 0 < length l → Least l f (least (map f l))
+least-of f [] h = absurd (omega arith)
+least-of f (x ∷ l) h = least-law f x l
+
+pub least-same : (f g : ℕ → ℤ) (l r : List ℕ) (w : ℤ) → ((v : ℕ) → count v r ≡ count v l) → ((v : ℕ) → count v r ≢ 0 → f v ≡ g v) → Least l f w → Least r g w
+least-same f g l r w e h m = record {
+  below = λ y q. subst (λ (z : ℤ). w ≤ℤ z) (h y q) (m .below y (omega (arith, e y)));
+  at = m .at;
+  in-list = omega (arith, e (m .at), m .in-list);
+  is = sym (h (m .at) (omega (arith, e (m .at), m .in-list))) ∙ m .is;
+}
+
+-- ---- the tree
+
+module _ (N : Net) (c1 : 0 < N .branch) (k : ℕ) (kN : k < size N) where
+  abbrev P : List ℕ
+  P = parentsAfter tieRule N k
+
+  abbrev S : List ℕ
+  S = inserted N k
+
+  abbrev Vertex : ℕ → Type 0
+  Vertex v = count v S + count v (down (size N) k) ≢ 0
+
+  pub g : Grown (size N) (N .branch) (ownSlack N) (inserted N k) k (parentsAfter tieRule N k)
+  g = grown-at N tieRule c1 k kN
+
+  pub t : PartTree (size N) (inserted N k) k (2 * k + 1) (parentOf (parentsAfter tieRule N k))
+  t = g .tree
+
+  pub inserted-count : (y : ℕ) → count y S ≡ count y (sinksIn N k)
+  inserted-count y =
+      omega (arith, newest-count (order N) y (suc k) (omega (arith, order-length N)), count-append y (take (suc k) (order N)) (drop (suc k) (order N)), ap (count y) (take-append-drop (suc k) (order N)))
+
+  pub to-vertex : (v : ℕ) → InTree N k v → Vertex v
+  to-vertex v h = omega (arith, count-append v (sinksIn N k) (down (size N) k), inserted-count v)
+
+  pub from-vertex : (v : ℕ) → Vertex v → InTree N k v
+  from-vertex v h = omega (arith, count-append v (sinksIn N k) (down (size N) k), inserted-count v)
+
+  pub vertex-in : (v : ℕ) → Vertex v → (1 ≤ v) × (v < 2 * size N)
+  vertex-in v h = go (equal? (count v S) 0)
+    where
+      go : (count v S ≡ 0) ⊎ (count v S ≢ 0) → (1 ≤ v) × (v < 2 * size N)
+      go (inl e) = omega (arith, down-in (size N) k v (omega arith))
+      go (inr d) = omega (arith, inserted-in N k kN v d)
+
+  pub slack-is : (y : ℕ) → count y S ≢ 0 → slack N (treeAfter N k) y ≡ before N k P y
+  slack-is y m = before-is N c1 g y kN m
+
+  -- the vertices on the path of a vertex are those that it meets
+  pub on-path : (v y : ℕ) → v ≢ 0 → count y S + count y (down (size N) k) ≢ 0 → count v (path (treeAfter N k) y) ≡ meet (parentOf P) (2 * k + 1) v y
+  on-path v y v0 m =
+      let e : length P ≡ (length P - (2 * k + 1)) + (2 * k + 1) = omega (arith, g .size) in
+      path-meet (parentOf P) (t .top) v v0 (length P) y
+      ∙ ap (λ (i : ℕ). meet (parentOf P) i v y) e
+      ∙ meet-add (parentOf P) (t .top) v v0 (length P - (2 * k + 1)) (2 * k + 1) y (t .reach y m)
+
+  pub path-length : (y : ℕ) → count y S + count y (down (size N) k) ≢ 0 → length (path (treeAfter N k) y) ≡ hops (parentOf P) (2 * k + 1) y
+  path-length y m =
+      let e : length P ≡ (length P - (2 * k + 1)) + (2 * k + 1) = omega (arith, g .size) in
+      path-hops (parentOf P) (length P) y ∙ ap (λ (i : ℕ). hops (parentOf P) i y) e ∙ hops-add (parentOf P) (length P - (2 * k + 1)) (2 * k + 1) y (t .top) (t .reach y m)
+
+  pub worst-least : Least S (before N k P) (worstOver N (treeAfter N k) (sinksIn N k))
+  worst-least =
+      least-same (slack N (treeAfter N k)) (before N k P) (sinksIn N k) S _ inserted-count slack-is
+      (least-of (slack N (treeAfter N k)) (sinksIn N k) (omega (arith, length-take (suc k) (order N), order-length N)))
+
+  -- the worst slack of the enlarged tree, over the sinks as insertion has them and as the definitions have them
+  pub enlarged : (kS : suc k < size N) (v : ℕ) → worstAfter N S k P (nextSink N k) v ≡ worstOver N (unsettled N (split P (size N) k (nextSink N k) v)) (sinksIn N (suc k))
+  enlarged kS v =
+      least-one (sinksIn N (suc k)) f _ _ (least-same f f (inserted N (suc k)) (sinksIn N (suc k)) _ (λ y. sym (inserted-next y)) (λ y m. refl) (least-law f (nextSink N k) S))
+      (least-of f (sinksIn N (suc k)) (omega (arith, length-take (suc (suc k)) (order N), order-length N)))
+    where
+      f : ℕ → ℤ
+      f = slack N (unsettled N (split P (size N) k (nextSink N k) v))
+
+      inserted-next : (y : ℕ) → count y (inserted N (suc k)) ≡ count y (sinksIn N (suc k))
+      inserted-next y =
+          omega (arith, newest-count (order N) y (suc (suc k)) (omega (arith, order-length N)), count-append y (take (suc (suc k)) (order N)) (drop (suc (suc k)) (order N)), ap (count y) (take-append-drop (suc (suc k)) (order N)))
+
+  -- ---- what is gathered, by the laws' terms and by the definitions'
+
+  pub to-under : (v : ℕ) (w : ℤ) → Vertex v → LeastBelow (parentOf P) (2 * k + 1) v S (before N k P) w → LeastUnder N (treeAfter N k) (sinksIn N k) v w
+  to-under v w h l = record {
+    below = λ s m q. let i : count s S ≢ 0 = omega (arith, inserted-count s) in
+        subst (λ (x : ℤ). w ≤ℤ x) (sym (slack-is s i)) (l .below s i (λ e. q (on-path v s (in-pos t v h) (omega arith) ∙ e)));
+    at = l .at;
+    in-list = omega (arith, inserted-count (l .at), l .in-list);
+    under = λ e. l .under (sym (on-path v (l .at) (in-pos t v h) (omega (arith, l .in-list))) ∙ e);
+    is = slack-is (l .at) (l .in-list) ∙ l .is;
+  }
+
+  pub from-under : (v : ℕ) (w : ℤ) → Vertex v → LeastUnder N (treeAfter N k) (sinksIn N k) v w → LeastBelow (parentOf P) (2 * k + 1) v S (before N k P) w
+  from-under v w h l =
+      let i : count (l .at) S ≢ 0 = omega (arith, inserted-count (l .at), l .in-list) in
+      record {
+        below = λ s m q. subst (λ (x : ℤ). w ≤ℤ x) (slack-is s m) (l .below s (omega (arith, inserted-count s)) (λ e. q (sym (on-path v s (in-pos t v h) (omega arith)) ∙ e)));
+        at = l .at;
+        in-list = i;
+        under = λ e. l .under (on-path v (l .at) (in-pos t v h) (omega arith) ∙ e);
+        is = sym (slack-is (l .at) i) ∙ l .is;
+      }
+
+  module _ {ps us : List ℕ} (I : Inserted N k ps us) where
+    -- the parents that the array holds
+    pub parent-is : (v : ℕ) → Vertex v → parentOf P v ≡ getD ps v 0
+    parent-is v h = ap (λ (Q : List ℕ). parentOf Q v) (sym (I .parents-are)) ∙ parents-at (size N) ps v (vertex-in v h .0) (vertex-in v h .1)

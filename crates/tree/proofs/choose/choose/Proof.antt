@@ -1,0 +1,45 @@
+-- `choose::choose` meets its contract: the best sink's edge, or that of a branch point that goes before it. Assumes nothing.
+use Prim.Native.Nat.{ℕ, suc, _+_}
+use mathlib.Core.Path.{_≡_, sym, _∙_, subst}
+use native.Mathlib.Omega.{arith}
+use borrow.Author.Needs.{needs}
+use Rattle.tree.specs.Insertion.{score}
+use Rattle.tree.specs.Choice.{farAt, BestEdge, SinkEnd}
+use Rattle.tree.proofs.Laws.Choosing.{far-branch-point}
+use Rattle.tree.proofs.choose.choose.Statement.{statement}
+use Rattle.tree.proofs.choose.choose.Tie as tie
+
+add-best-sink : tie.Need-add-best-sink
+add-best-sink c = search needs
+
+best-sink-requires : tie.Need-best-sink-requires
+best-sink-requires c κs =
+    let p = c .before .pre in
+    let q = p .1 .1 .0 in
+    ((omega arith, omega arith, p .0 .2, p .0 .3, p .0 .4, omega arith, p .0 .7), (p .1 .0, λ i l. let w = q i (omega arith) in (w .0, omega (arith, w .0), w .1)))
+
+far-apart-requires : tie.Need-far-apart-requires
+far-apart-requires c κs =
+    let p = c .before .before .pre in
+    ((omega arith, omega arith, omega arith, omega arith), (p .1 .0 0 (omega arith), p .1 .0 _ (p .0 .2)))
+
+or-branch-point-requires : tie.Need-or-branch-point-requires
+or-branch-point-requires c κs =
+    let p = c .before .before .before .pre in
+    ((omega arith, omega arith, omega arith, p .0 .7), p .1 .1 .1)
+
+returns : tie.Need-returns
+returns c =
+    let s = c .before .before .before .before in
+    let a = s .args in
+    let nearest = c .before .before .best-sink in
+    let d = farAt (a .n) (a .xs .now) (a .ys .now) (a .s) in
+    let one : a .k + 1 ≡ suc (a .k) = omega arith in
+    let B = subst (λ (m : ℕ). BestEdge (SinkEnd (a .sinks .now) m) (score (a .branch .0) (a .slacks .now)) d (nearest .result)) one (nearest .ensures) in
+    c .or-branch-point .ensures (a .sinks .now) d (λ i l. s .pre .1 .1 .0 i l .0)
+    (λ v l. far-branch-point (a .n) (a .xs .now) (a .ys .now) (a .s) v l ∙ sym (c .before .far-apart .ensures)) B .1
+
+pub choose-spec : {M : Type 1} → statement M
+choose-spec =
+    tie.close
+    (tie.spec add-best-sink best-sink-requires far-apart-requires or-branch-point-requires returns)

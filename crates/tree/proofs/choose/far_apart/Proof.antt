@@ -1,0 +1,27 @@
+-- `choose::far_apart` meets its contract: positions in range are in reach of `distance`. Assumes nothing.
+use mathlib.Core.Path.{sym, ap₂, _∙_, subst}
+use borrow.Author.Needs.{needs}
+use Rattle.quantities.specs.Distance.{distance}
+use Rattle.quantities.specs.Reach.{PointWithin, coordinateReach}
+use Rattle.tree.proofs.Laws.Measuring.{point-reach}
+use Rattle.tree.proofs.choose.far_apart.Statement.{statement}
+use Rattle.tree.proofs.choose.far_apart.Tie as tie
+
+point-requires : tie.Need-point-requires
+point-requires c κs = search needs
+
+point-requires-2 : tie.Need-point-requires-2
+point-requires-2 c κs = search needs
+
+distance-requires : tie.Need-distance-requires
+distance-requires c κs =
+    let p = c .before .before .pre in
+    let from = subst (PointWithin coordinateReach) (sym (c .before .point .ensures)) (point-reach _ (p .1 .0)) in
+    let to = subst (PointWithin coordinateReach) (sym (c .point2 .ensures)) (point-reach _ (p .1 .1)) in
+    (from, to)
+
+returns : tie.Need-returns
+returns c = c .distance .ensures ∙ ap₂ distance (c .before .before .point .ensures) (c .before .point2 .ensures)
+
+pub far-apart-spec : {M : Type 1} → statement M
+far-apart-spec = tie.close (tie.spec point-requires point-requires-2 distance-requires returns)

@@ -1,0 +1,46 @@
+-- The choice of the edge to split, from the numbers that the planner's arrays give, for the contracts of its inner functions. Definitions alone.
+use Prim.Native.Nat.{ℕ, _+_, _≤_, _<_}
+use mathlib.Core.Path.{_≡_}
+use mathlib.Core.Bool.{Bool, cond}
+use mathlib.Core.Logic.{_⊎_}
+use mathlib.Core.List.{List}
+use lib.ListN.{getD}
+use lib.Dec.{ltb}
+use lib.IntN.{ℤ}
+use lib.Signed.{_≤ℤ_}
+use Rattle.quantities.specs.Distance.{distance}
+use Rattle.tree.specs.declared.choose.Edge.{Edge}
+use Rattle.tree.specs.Planning.{nearer, ranks}
+use Rattle.tree.specs.Arrays.{pointAt}
+
+-- how far the lower end v is from sink s, a branch point counted at the root's position
+abbrev pub farAt : ℕ → List ℤ → List ℤ → ℕ → ℕ → ℕ
+farAt n xs ys s v = distance (pointAt xs ys (cond (ltb n v) 0 v)) (pointAt xs ys s)
+
+-- edge a goes before edge b: by the larger worst slack, then the nearer lower end, then its lower number
+abbrev pub goesBefore : Edge → Edge → Bool
+goesBefore a b = ranks (a .score .0) (b .score .0) (nearer (a .far .0) (b .far .0) (ltb (a .end) (b .end)))
+
+abbrev pub firstOf : Edge → Edge → Edge
+firstOf a b = cond (goesBefore a b) a b
+
+-- the edge to v, where f gives the worst slacks and d the distances
+abbrev pub edgeTo : (ℕ → ℤ) → (ℕ → ℕ) → ℕ → Edge
+edgeTo f d v = record { end = v; score = record { 0 = f v }; far = record { 0 = d v } }
+
+-- r is one of the given lower ends: of the largest f, then of the smallest d, then of the lowest number
+pub record BestEnd (Ends : ℕ → Type 0) (f : ℕ → ℤ) (d : ℕ → ℕ) (r : ℕ) : Type 0 where
+  pub inside : Ends r
+  pub largest : (u : ℕ) → Ends u → f u ≤ℤ f r
+  pub nearest : (u : ℕ) → Ends u → f u ≡ f r → d r ≤ d u
+  pub lowest : (u : ℕ) → Ends u → f u ≡ f r → d u ≡ d r → r ≤ u
+
+abbrev pub BestEdge : (ℕ → Type 0) → (ℕ → ℤ) → (ℕ → ℕ) → Edge → Type 0
+BestEdge Ends f d x = (x ≡ edgeTo f d (x .end)) × BestEnd Ends f d (x .end)
+
+-- the lower ends: the first m sinks in their order, and h branch points
+abbrev pub SinkEnd : List ℕ → ℕ → ℕ → Type 0
+SinkEnd sinks m v = (i : ℕ) × (i < m) × (getD sinks i 0 ≡ v)
+
+abbrev pub AnyEnd : List ℕ → ℕ → ℕ → ℕ → ℕ → Type 0
+AnyEnd sinks m n h v = SinkEnd sinks m v ⊎ ((n < v) × (v ≤ n + h))

@@ -1,0 +1,165 @@
+//! Seeded nets with many tied edges, so that nearness decides.
+
+use crate::nets::{of_slacks, point, shuffle};
+use crate::random::Random;
+use second_reference::net::{Net, COORDINATE};
+use second_reference::tree::Point;
+
+/// A net of these points and own slacks, about the root.
+fn net(r: &mut Random, root: Point, branch: i64, sinks: Vec<(Point, i64)>) -> Net {
+    of_slacks(root, branch, r.between(1, 400), sinks)
+}
+
+/// A net of these points and own slacks that leave many edges tied.
+fn with_ties(r: &mut Random, root: Point, points: Vec<Point>) -> Net {
+    let branch = r.between(1, 1000);
+    let own = tying_slacks(r, branch, points.len());
+    net(r, root, branch, zip(points, own))
+}
+
+fn tying_slacks(r: &mut Random, branch: i64, n: usize) -> Vec<i64> {
+    match r.index(4) {
+        0 => vec![0; n],
+        1 => {
+            let most = r.pick(&[1, 3, n as i64]);
+            (0..n).map(|_| branch * r.between(0, most)).collect()
+        }
+        2 => spare_slacks(branch, n),
+        // The order of insertion is another than the numbers'.
+        _ => {
+            let mut own = spare_slacks(branch, n);
+            own.iter_mut().for_each(|a| *a += r.between(0, branch));
+            own
+        }
+    }
+}
+
+/// The last sink is urgent, the others have time to spare for any depth.
+fn spare_slacks(branch: i64, n: usize) -> Vec<i64> {
+    let mut own = vec![branch * (n as i64 + 2); n];
+    own[n - 1] = 0;
+    own
+}
+
+fn zip(points: Vec<Point>, own: Vec<i64>) -> Vec<(Point, i64)> {
+    points.into_iter().zip(own).collect()
+}
+
+/// Pins on few spots, the root's at times among them.
+pub fn few_spots(r: &mut Random, n: usize) -> Net {
+    let spread = r.pick(&[1, 5, 1000, COORDINATE]);
+    let root = point(r, spread);
+    let mut spots: Vec<Point> = (0..r.between(1, 6)).map(|_| point(r, spread)).collect();
+    if r.once_in(2) {
+        spots[0] = root;
+    }
+    let points = (0..n).map(|_| r.pick(&spots)).collect();
+    with_ties(r, root, points)
+}
+
+/// All pins on one spot with the same own slack, so that numbers decide.
+pub fn one_spot(r: &mut Random, n: usize) -> Net {
+    let (root, spot) = (point(r, 1000), point(r, 1000));
+    let branch = r.between(1, 1000);
+    net(r, root, branch, vec![(spot, 0); n])
+}
+
+/// One long path: all pins on one spot and time to spare, so that sink 1 is
+/// split again and again.
+pub fn deep(r: &mut Random, n: usize) -> Net {
+    let (root, spot) = (point(r, 1000), point(r, 1000));
+    let branch = r.between(1, 1000);
+    let own = spare_slacks(branch, n);
+    net(r, root, branch, zip(vec![spot; n], own))
+}
+
+/// Points anywhere, so that one of two tied sinks is nearer.
+pub fn spread_out(r: &mut Random, n: usize) -> Net {
+    let spread = r.pick(&[4, 300, COORDINATE]);
+    let root = point(r, spread);
+    let points = (0..n).map(|_| point(r, spread)).collect();
+    with_ties(r, root, points)
+}
+
+/// Corners m,m from the root, and points m+x,-y from it: these are as near to
+/// that corner as to the root.
+pub fn as_near(r: &mut Random, n: usize) -> Net {
+    let root = point(r, 50);
+    let m = r.between(1, 20);
+    let points = (0..n)
+        .map(|_| match r.index(2) {
+            0 => turned(r, root, m, m),
+            _ => {
+                let (x, y) = (m + r.between(0, m), r.between(0, m));
+                turned(r, root, x, -y)
+            }
+        })
+        .collect();
+    with_ties(r, root, points)
+}
+
+/// x,y from the root, in one of the four directions.
+fn turned(r: &mut Random, root: Point, x: i64, y: i64) -> Point {
+    let (x, y) = r.pick(&[(x, y), (-y, x), (-x, -y), (y, -x)]);
+    Point::new(root.x as i64 + x, root.y as i64 + y)
+}
+
+/// How many sinks can be on the four sides of the root, each less than half as
+/// far out as the one before on its side.
+const MOST_ON_SIDES: usize = 64;
+
+fn on_side(root: Point, i: usize) -> Point {
+    let out = (1 << (16 - i / 4)) - 1;
+    let (x, y) = [(out, 0), (0, out), (-out, 0), (0, -out)][i % 4];
+    Point::new(root.x as i64 + x, root.y as i64 + y)
+}
+
+/// An urgent sink, a cluster in a far corner, then sinks on the root's sides.
+/// To each of these the root is nearer than any tied sink, so an edge above a
+/// branch point is split, and the whole cluster gets one deeper.
+fn around_root(r: &mut Random, n: usize, on_sides: usize, cluster: i64) -> Net {
+    let root = point(r, 500);
+    let branch = r.between(1, 1000);
+    let far = COORDINATE - cluster;
+    let mut points: Vec<Point> = (on_sides..n)
+        .map(|_| Point::new(r.between(far, COORDINATE), r.between(far, COORDINATE)))
+        .collect();
+    points.extend((0..on_sides).map(|i| on_side(root, i)));
+    let spare = branch * (n as i64 + 1);
+    let own = (0..n as i64).map(|k| if k == 0 { 0 } else { spare + k });
+    let mut sinks = zip(points, own.collect());
+    if r.once_in(2) {
+        shuffle(r, &mut sinks);
+    }
+    net(r, root, branch, sinks)
+}
+
+pub fn near_root(r: &mut Random, n: usize) -> Net {
+    let most = n.min(MOST_ON_SIDES) as i64;
+    let on_sides = r.between(1, most) as usize;
+    let cluster = r.pick(&[0, 1000]);
+    around_root(r, n, on_sides, cluster)
+}
+
+/// As many as can be on the sides, and the rest spread over the corner.
+pub fn tree_near_root(r: &mut Random, n: usize) -> Net {
+    around_root(r, n, MOST_ON_SIDES.min(n / 2), 1000)
+}
+
+/// As many as can be on the sides, and the rest on one spot, so that they make
+/// a path.
+pub fn path_near_root(r: &mut Random, n: usize) -> Net {
+    around_root(r, n, MOST_ON_SIDES.min(n / 2), 0)
+}
+
+/// Any of these.
+pub fn any(r: &mut Random, n: usize) -> Net {
+    match r.index(6) {
+        0 => few_spots(r, n),
+        1 => one_spot(r, n),
+        2 => deep(r, n),
+        3 => spread_out(r, n),
+        4 => as_near(r, n),
+        _ => near_root(r, n),
+    }
+}
