@@ -1,4 +1,4 @@
-// The marked nets and lines of 01 that are checked by running plan: number, text and line of what it returns for each, and its bytes.
+// The marked nets and lines that are checked by running plan: number, text and line of what it returns for each, and its bytes; of request 1's nets the listing.
 use formats::answers::PlanAnswer;
 use formats::plan::plan;
 use libc::STDOUT_FILENO;
@@ -18,6 +18,23 @@ fn show_plan(net: &[u8]) {
     let mut out = [0u8; 24576];
     match plan(net, &mut out) {
         PlanAnswer::Planned { slack, wire, bytes } => show_figures(0, 0, 0, bytes),
+        PlanAnswer::PlanRefused { number, text, line } => show_figures(number, text, line, 0),
+    }
+}
+
+fn print_listing(out: &[u8], bytes: usize) -> bool {
+    if out.len() < bytes {
+        return false;
+    }
+    io::write_all(STDOUT_FILENO, &out[..bytes])
+}
+
+fn show_listing(net: &[u8]) {
+    let mut out = [0u8; 24576];
+    match plan(net, &mut out) {
+        PlanAnswer::Planned { slack, wire, bytes } => {
+            print_listing(&out, bytes);
+        }
         PlanAnswer::PlanRefused { number, text, line } => show_figures(number, text, line, 0),
     }
 }
@@ -65,4 +82,11 @@ fn main() {
         b"root=0,0\nbranch=20\nwire=2\nneed=-2000000000000\nsinks=3\nsink=100001,0,100\nsink=4,6,60\nsink=10,10,70\n",
     );
     show_512_sinks();
+    // Request 1 of 02: the edge above a branch point is the nearest; sink 2 is nearer than sink 1.
+    show_listing(
+        b"root=0,0\nbranch=20\nwire=2\nneed=-40\nsinks=3\nsink=10,0,20\nsink=10,0,20\nsink=1,0,2\n",
+    );
+    show_listing(
+        b"root=0,0\nbranch=20\nwire=2\nneed=-40\nsinks=3\nsink=10,0,20\nsink=0,10,20\nsink=1,10,22\n",
+    );
 }
