@@ -17,6 +17,7 @@ pub mod DueFor
 pub mod ListingLines
 pub mod Elements
 pub mod DueTexts
+pub mod SinkTexts
 pub mod NetTexts
 pub mod ListingTexts
 pub mod TextLengths
@@ -26,4 +27,5 @@ pub mod PlanListing
 pub mod Planning
 pub mod Judging
 pub mod Demands
+pub mod FarPins
 pub mod Marked

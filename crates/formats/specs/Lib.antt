@@ -13,4 +13,5 @@ pub mod Refusals
 pub mod Answers
 pub mod Emitting
 pub mod Demands
+pub mod FarPins
 pub mod Marked

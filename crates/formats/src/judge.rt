@@ -1,11 +1,10 @@
 // Judge: a net and a listing in, the listing's measures and the net's Kraft maximum out.
 ghost use mathlib.Core.Path.{_≡_};
 ghost use Prim.Native.Nat.{_*_, _≤_, _<_};
-ghost use lib.ListN.{length, drop};
+ghost use lib.ListN.{length};
 ghost use Rattle.tree.specs.Arrays.{netOf, treeOf, HoldsNet, HoldsTree};
 ghost use Rattle.formats.specs.Answers.{judgeFigures, vertexLine, judgeFiguresOf, judgeTree, judgeListing, judgeOf};
-ghost use Rattle.formats.specs.NetText.{readNet};
-ghost use Rattle.formats.specs.Readers.{fromSinks};
+ghost use Rattle.formats.specs.Readers.{HeadHeld};
 ghost use Rattle.formats.specs.ListingText.{readListing};
 use crate::answers::JudgeAnswer;
 use crate::read_listing::ListingRead;
@@ -185,7 +184,7 @@ fn judge_rest(
     room: &mut [usize],
     listing: &[u8],
 ) -> JudgeAnswer
-    requires head { ⌜ (readNet (now net) ≡ fromSinks header root n (drop (next .at) (now net))) × (n ≤ 512) × (next .at ≤ length (now net)) × (next .line ≡ 6) ⌝ }
+    requires head { ⌜ HeadHeld 512 (now net) header root n next ⌝ }
     requires room { ⌜ (n < length (now xs)) × (2 * n ≤ length (now xs)) × (n < length (now ys)) × (2 * n ≤ length (now ys)) × (n < length (now required)) × (2 * n ≤ length (now parents)) × (n < length (now own)) × (n < length (now slacks)) × (2 * n ≤ length (now room)) ⌝ }
     ensures { λ r. ⌜ judgeFigures r ≡ judgeOf (now (net .entry)) (now (listing .entry)) ⌝ }
 {
@@ -219,7 +218,7 @@ fn judge_small(
     next: Place,
     listing: &[u8],
 ) -> JudgeAnswer
-    requires head { ⌜ (readNet (now net) ≡ fromSinks header root n (drop (next .at) (now net))) × (n ≤ 16) × (next .at ≤ length (now net)) × (next .line ≡ 6) ⌝ }
+    requires head { ⌜ HeadHeld 16 (now net) header root n next ⌝ }
     ensures { λ r. ⌜ judgeFigures r ≡ judgeOf (now (net .entry)) (now (listing .entry)) ⌝ }
 {
     let mut xs = [0i64; 32];
@@ -255,7 +254,7 @@ fn judge_large(
     next: Place,
     listing: &[u8],
 ) -> JudgeAnswer
-    requires head { ⌜ (readNet (now net) ≡ fromSinks header root n (drop (next .at) (now net))) × (n ≤ 512) × (next .at ≤ length (now net)) × (next .line ≡ 6) ⌝ }
+    requires head { ⌜ HeadHeld 512 (now net) header root n next ⌝ }
     ensures { λ r. ⌜ judgeFigures r ≡ judgeOf (now (net .entry)) (now (listing .entry)) ⌝ }
 {
     let mut xs = [0i64; 1024];

@@ -1,5 +1,7 @@
-// The ranges and lengths of 01, each once. The same numbers stand in specs/Limits of the crate tree and in specs/NetText and specs/ListingText.
+// The ranges and lengths of 01 and the pin limit of 02's request 2, each once. The same numbers stand in specs/Limits of the crate tree and in specs/NetText and specs/ListingText.
 pub const POSITION_LIMIT: u64 = 100_000;
+
+pub const PIN_LIMIT: u64 = 40_000;
 
 pub const BRANCH_LIMIT: u64 = 1_000_000;
 

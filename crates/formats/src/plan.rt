@@ -1,10 +1,9 @@
 // Plan: a net in, the listing of its planned tree out.
 ghost use mathlib.Core.Path.{_≡_};
 ghost use Prim.Native.Nat.{_*_, _≤_, _<_};
-ghost use lib.ListN.{length, drop};
+ghost use lib.ListN.{length};
 ghost use Rattle.tree.specs.Arrays.{netOf, treeOf, HoldsNet};
-ghost use Rattle.formats.specs.NetText.{readNet};
-ghost use Rattle.formats.specs.Readers.{fromSinks};
+ghost use Rattle.formats.specs.Readers.{HeadHeld};
 ghost use Rattle.formats.specs.ListingText.{listingLengthLimit, listingText, ListingInRange};
 ghost use Rattle.formats.specs.Answers.{planFigures, planNet, planBytes, planOf, planOutput, overwritten};
 ghost use Rattle.formats.specs.Emitting.{emitFigures, emitBytes};
@@ -138,7 +137,7 @@ fn plan_rest(
     below: &mut [usize],
     out: &mut [u8],
 ) -> PlanAnswer
-    requires head { ⌜ (readNet (now net) ≡ fromSinks header root n (drop (next .at) (now net))) × (n ≤ 512) × (next .at ≤ length (now net)) × (next .line ≡ 6) ⌝ }
+    requires head { ⌜ HeadHeld 512 (now net) header root n next ⌝ }
     requires room { ⌜ (n < length (now xs)) × (2 * n ≤ length (now xs)) × (n < length (now ys)) × (2 * n ≤ length (now ys)) × (n < length (now required)) × (2 * n ≤ length (now parents)) × (n < length (now own)) × (2 * n ≤ length (now slacks)) × (4 * n ≤ length (now room)) × (2 * n ≤ length (now levels)) × (2 * n ≤ length (now below)) ⌝ }
     ensures figures { λ r. ⌜ planFigures r ≡ planOf (now (net .entry)) (length (now (out .entry))) ⌝ }
     ensures output { λ r. ⌜ now (out .exit) ≡ planOutput (now (net .entry)) (now (out .entry)) ⌝ }
@@ -175,7 +174,7 @@ fn plan_small(
     next: Place,
     out: &mut [u8],
 ) -> PlanAnswer
-    requires head { ⌜ (readNet (now net) ≡ fromSinks header root n (drop (next .at) (now net))) × (n ≤ 16) × (next .at ≤ length (now net)) × (next .line ≡ 6) ⌝ }
+    requires head { ⌜ HeadHeld 16 (now net) header root n next ⌝ }
     ensures figures { λ r. ⌜ planFigures r ≡ planOf (now (net .entry)) (length (now (out .entry))) ⌝ }
     ensures output { λ r. ⌜ now (out .exit) ≡ planOutput (now (net .entry)) (now (out .entry)) ⌝ }
 {
@@ -216,7 +215,7 @@ fn plan_medium(
     next: Place,
     out: &mut [u8],
 ) -> PlanAnswer
-    requires head { ⌜ (readNet (now net) ≡ fromSinks header root n (drop (next .at) (now net))) × (n ≤ 64) × (next .at ≤ length (now net)) × (next .line ≡ 6) ⌝ }
+    requires head { ⌜ HeadHeld 64 (now net) header root n next ⌝ }
     ensures figures { λ r. ⌜ planFigures r ≡ planOf (now (net .entry)) (length (now (out .entry))) ⌝ }
     ensures output { λ r. ⌜ now (out .exit) ≡ planOutput (now (net .entry)) (now (out .entry)) ⌝ }
 {
@@ -257,7 +256,7 @@ fn plan_large(
     next: Place,
     out: &mut [u8],
 ) -> PlanAnswer
-    requires head { ⌜ (readNet (now net) ≡ fromSinks header root n (drop (next .at) (now net))) × (n ≤ 512) × (next .at ≤ length (now net)) × (next .line ≡ 6) ⌝ }
+    requires head { ⌜ HeadHeld 512 (now net) header root n next ⌝ }
     ensures figures { λ r. ⌜ planFigures r ≡ planOf (now (net .entry)) (length (now (out .entry))) ⌝ }
     ensures output { λ r. ⌜ now (out .exit) ≡ planOutput (now (net .entry)) (now (out .entry)) ⌝ }
 {

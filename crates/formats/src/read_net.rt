@@ -1,15 +1,20 @@
 // Reads a net text into arrays, or finds what is wrong with it first.
 ghost use mathlib.Core.Path.{_≡_};
 ghost use Prim.Native.Nat.{_+_, _^_, _≤_, _<_};
+ghost use lib.Dec.{ltb};
 ghost use lib.ListN.{length, drop};
 ghost use Rattle.quantities.specs.Linear.{up};
+ghost use Rattle.quantities.specs.Distance.{distance};
+ghost use Rattle.quantities.specs.Reach.{PointWithin};
 ghost use Rattle.tree.specs.Arrays.{pointAt};
 ghost use Rattle.tree.specs.declared.header.Header.{Header};
-ghost use Rattle.formats.specs.NetText.{readNet};
+ghost use Rattle.tree.specs.Limits.{positionLimit};
+ghost use Rattle.formats.specs.NetText.{pinLimit, readNet};
 ghost use Rattle.formats.specs.Readers.{afterHead, HeadWithin, Heads, fromBranch, fromWire, fromNeed, fromCount, fromSinks, SinkSays, netOutcome};
 use crate::limits::BRANCH_LIMIT;
 use crate::limits::NEED_LIMIT;
 use crate::limits::NET_LENGTH_LIMIT;
+use crate::limits::PIN_LIMIT;
 use crate::limits::POSITION_LIMIT;
 use crate::limits::REQUIRED_LIMIT;
 use crate::limits::SINK_LIMIT;
@@ -20,7 +25,9 @@ use crate::reader::Place;
 use crate::reader::Taken;
 use crate::reader::bytes_follow;
 use crate::reader::read_line;
+use quantities::length::Length;
 use quantities::point::Point;
+use quantities::point::distance;
 use quantities::time::Time;
 use quantities::wire_factor::WireFactor;
 use tree::header::Header;
@@ -79,7 +86,7 @@ pub fn read_head(text: &[u8]) -> Head
 
 // Line 2 and those after it.
 fn read_branch(text: &[u8], here: Place, root: Point) -> Head
-    requires { ⌜ (here .at ≤ length (now text)) × (here .line ≡ 2) ⌝ }
+    requires { ⌜ (here .at ≤ length (now text)) × (here .line ≡ 2) × PointWithin positionLimit root ⌝ }
     ensures { λ r. ⌜ Heads (fromBranch root (drop (here .at) (now (text .entry)))) (now (text .entry)) r ⌝ }
 {
     let line = here.line;
@@ -96,7 +103,7 @@ fn read_branch(text: &[u8], here: Place, root: Point) -> Head
 
 // Line 3 and those after it.
 fn read_wire(text: &[u8], here: Place, root: Point, branch: Time) -> Head
-    requires { ⌜ (here .at ≤ length (now text)) × (here .line ≡ 3) ⌝ }
+    requires { ⌜ (here .at ≤ length (now text)) × (here .line ≡ 3) × PointWithin positionLimit root ⌝ }
     ensures { λ r. ⌜ Heads (fromWire root (up (branch .0)) (drop (here .at) (now (text .entry)))) (now (text .entry)) r ⌝ }
 {
     let line = here.line;
@@ -113,7 +120,7 @@ fn read_wire(text: &[u8], here: Place, root: Point, branch: Time) -> Head
 
 // Line 4 and those after it.
 fn read_need(text: &[u8], here: Place, root: Point, branch: Time, wire: WireFactor) -> Head
-    requires { ⌜ (here .at ≤ length (now text)) × (here .line ≡ 4) ⌝ }
+    requires { ⌜ (here .at ≤ length (now text)) × (here .line ≡ 4) × PointWithin positionLimit root ⌝ }
     ensures { λ r. ⌜ Heads (fromNeed root (up (branch .0)) (wire .0) (drop (here .at) (now (text .entry)))) (now (text .entry)) r ⌝ }
 {
     let line = here.line;
@@ -130,7 +137,7 @@ fn read_need(text: &[u8], here: Place, root: Point, branch: Time, wire: WireFact
 
 // Line 5.
 fn read_count(text: &[u8], here: Place, root: Point, header: Header) -> Head
-    requires { ⌜ (here .at ≤ length (now text)) × (here .line ≡ 5) ⌝ }
+    requires { ⌜ (here .at ≤ length (now text)) × (here .line ≡ 5) × PointWithin positionLimit root ⌝ }
     ensures { λ r. ⌜ Heads (fromCount root (up (header .branch .0)) (header .wire .0) (header .need .0) (drop (here .at) (now (text .entry)))) (now (text .entry)) r ⌝ }
 {
     let line = here.line;
@@ -150,17 +157,26 @@ fn read_count(text: &[u8], here: Place, root: Point, header: Header) -> Head
     }
 }
 
+// Whether a pin stands farther from the root than the pin limit.
+fn is_far(root: Point, pin: Point) -> bool
+    requires { ⌜ PointWithin positionLimit root × PointWithin positionLimit pin ⌝ }
+    ensures { λ r. ⌜ r ≡ ltb pinLimit (distance root pin) ⌝ }
+{
+    Length::of(PIN_LIMIT).is_less(distance(root, pin))
+}
+
 // The line of sink s, into the place s of the arrays.
 fn read_sink(
     text: &[u8],
     here: Place,
+    root: Point,
     s: usize,
     xs: &mut [i64],
     ys: &mut [i64],
     required: &mut [i64],
 ) -> SinkLine
-    requires { ⌜ (here .at ≤ length (now text)) × (here .line + 1 < 2 ^ 64) × (s < length (now xs)) × (s < length (now ys)) × (s < length (now required)) ⌝ }
-    ensures { λ r. ⌜ SinkSays (now (text .entry)) here s (now (xs .entry)) (now (ys .entry)) (now (required .entry)) r (now (xs .exit)) (now (ys .exit)) (now (required .exit)) ⌝ }
+    requires { ⌜ (here .at ≤ length (now text)) × (here .line + 1 < 2 ^ 64) × PointWithin positionLimit root × (s < length (now xs)) × (s < length (now ys)) × (s < length (now required)) ⌝ }
+    ensures { λ r. ⌜ SinkSays root (now (text .entry)) here s (now (xs .entry)) (now (ys .entry)) (now (required .entry)) r (now (xs .exit)) (now (ys .exit)) (now (required .exit)) ⌝ }
 {
     let Taken::AsDue { numbers, next } = read_line(text, here.at, here.line, b"sink=", 3) else {
         return SinkLine::SinkRefused { number: 2 };
@@ -177,8 +193,17 @@ fn read_sink(
     if !is_around(arrival, REQUIRED_LIMIT) {
         return SinkLine::SinkRefused { number: 3 };
     }
-    xs[s] = x.value();
-    ys[s] = y.value();
+    let pin = Point {
+        x: x.value(),
+        y: y.value(),
+    };
+    if is_far(root, pin) {
+        return SinkLine::SinkRefused { number: 13 };
+    }
+    let x = pin.x;
+    let y = pin.y;
+    xs[s] = x;
+    ys[s] = y;
     required[s] = arrival.value();
     SinkLine::SinkRead { next }
 }
@@ -187,18 +212,19 @@ fn read_sink(
 fn read_sinks(
     text: &[u8],
     from: Place,
+    root: Point,
     n: usize,
     xs: &mut [i64],
     ys: &mut [i64],
     required: &mut [i64],
 ) -> NetRead
-    requires { ⌜ (from .at ≤ length (now text)) × (from .line ≡ 6) × (n ≤ 512) × (n < length (now xs)) × (n < length (now ys)) × (n < length (now required)) ⌝ }
-    ensures { λ r. ⌜ ((h : Header) → fromSinks h (pointAt (now (xs .entry)) (now (ys .entry)) 0) n (drop (from .at) (now (text .entry))) ≡ netOutcome h n r (now (xs .exit)) (now (ys .exit)) (now (required .exit))) ⌝ }
+    requires { ⌜ (from .at ≤ length (now text)) × (from .line ≡ 6) × PointWithin positionLimit root × (root ≡ pointAt (now xs) (now ys) 0) × (n ≤ 512) × (n < length (now xs)) × (n < length (now ys)) × (n < length (now required)) ⌝ }
+    ensures { λ r. ⌜ ((h : Header) → fromSinks h root n (drop (from .at) (now (text .entry))) ≡ netOutcome h n r (now (xs .exit)) (now (ys .exit)) (now (required .exit))) ⌝ }
 {
     let mut here = from;
     let mut done = 0;
     while done < n {
-        match read_sink(text, here, done + 1, xs, ys, required) {
+        match read_sink(text, here, root, done + 1, xs, ys, required) {
             SinkLine::SinkRead { next } => {
                 here = next;
             }
@@ -230,12 +256,12 @@ pub fn read_rest(
     ys: &mut [i64],
     required: &mut [i64],
 ) -> NetRead
-    requires { ⌜ (next .at ≤ length (now text)) × (next .line ≡ 6) × (n ≤ 512) × (n < length (now xs)) × (n < length (now ys)) × (n < length (now required)) ⌝ }
+    requires { ⌜ (next .at ≤ length (now text)) × (next .line ≡ 6) × PointWithin positionLimit root × (n ≤ 512) × (n < length (now xs)) × (n < length (now ys)) × (n < length (now required)) ⌝ }
     ensures { λ r. ⌜ ((h : Header) → fromSinks h root n (drop (next .at) (now (text .entry))) ≡ netOutcome h n r (now (xs .exit)) (now (ys .exit)) (now (required .exit))) ⌝ }
 {
     let x = root.x;
     let y = root.y;
     xs[0] = x;
     ys[0] = y;
-    read_sinks(text, next, n, xs, ys, required)
+    read_sinks(text, next, root, n, xs, ys, required)
 }

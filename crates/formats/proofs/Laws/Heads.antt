@@ -5,17 +5,18 @@ use mathlib.Core.Path.{_≡_, ap, sym, _∙_}
 use mathlib.Core.Bool.{true}
 use mathlib.Core.List.{List, [], _∷_}
 use lib.ListN.{length, drop}
-use lib.IntN.{ℤ, pos, natAbs}
+use lib.IntN.{ℤ, pos, negℤ, natAbs}
 use lib.Signed.{leZ}
 use native.Mathlib.Omega.{arith}
 use borrow.Author.Tests.{lt-ltb, le-ltb}
 use Rattle.quantities.specs.Linear.{up, whole, natAbs-is, one-part}
 use Rattle.quantities.specs.declared.point.Point.{Point}
+use Rattle.quantities.specs.Reach.{Within, PointWithin}
 use Rattle.tree.specs.declared.header.Header.{Header}
 use Rattle.tree.specs.Net.{Net}
 use Rattle.tree.specs.Limits.{positionLimit, branchLimit, wireFactorLimit, needLimit, sinkLimit}
 use Rattle.formats.specs.Line.{lineIn}
-use Rattle.formats.specs.Reading.{Range, allInside, Outcome, refused, due, ended}
+use Rattle.formats.specs.Reading.{Range, inside, allInside, Outcome, refused, due, ended}
 use Rattle.formats.specs.Scanning.{lineAt}
 use Rattle.formats.specs.NetText.{netLengthLimit, rootKey, branchKey, wireKey, needKey, sinksKey, around, upTo, readSinks, readNetLines, readNet}
 use Rattle.formats.specs.Readers.{netFrom, afterHead, HeadWithin, Heads, fromBranch, fromWire, fromNeed, fromCount}
@@ -24,7 +25,7 @@ use Rattle.formats.specs.declared.read_net.Head.the-variants.{HeadRead, 
 use Rattle.formats.specs.declared.scan.Numbers.{Numbers}
 use Rattle.formats.specs.declared.reader.Place.{Place}
 use Rattle.formats.specs.declared.scan.Line.the-variants.{Spelt, Misspelled}
-use Rattle.formats.proofs.Laws.Due.{valueOf, value-abs, value-most, and-first, AllNarrow, Passed, Failed, AllSmall, listed, values, next-line, due-wrong, due-out, due-in, due-small, due-inside}
+use Rattle.formats.proofs.Laws.Due.{valueOf, value-abs, value-most, and-first, and-second, AllNarrow, Passed, Failed, AllSmall, listed, values, next-line, due-wrong, due-out, due-in, due-small, due-inside}
 
 -- the line at `at` is spelt right, with every number in its range; the next one starts at `next`
 pub record Taken (key : List ℕ) (ranges : List Range) (s : List ℕ) (at : ℕ) (ns : Numbers) (next : ℕ) : Type 0 where
@@ -48,6 +49,19 @@ module _ {key : List ℕ} {ranges : List Range} {s : List ℕ} {at : ℕ} {ns : 
 
   pub heads-in : (l : ℕ) (cont : List ℤ → List ℕ → Outcome Net) (r : Head) → Heads (cont (values ranges (listed ns)) (drop next s)) s r → Heads (due l key ranges (drop at s) cont) s r
   heads-in l cont r h = record { reads = taken-due l cont ∙ h .reads; within = h .within }
+
+around-within : (limit : ℕ) (z : ℤ) → inside (around limit) z ≡ true → Within limit z
+around-within limit z e =
+    let a : leZ (negℤ (pos limit)) z ≡ true = and-first (leZ (negℤ (pos limit)) z) (leZ z (pos limit)) e in
+    let b : leZ z (pos limit) ≡ true = and-second (leZ (negℤ (pos limit)) z) (leZ z (pos limit)) e in
+    (omega (arith, whole), omega (arith, whole))
+
+-- the point of a line whose first two numbers are a position
+pub point-within : {key : List ℕ} {ranges : List Range} {s : List ℕ} {at : ℕ} {ns : Numbers} {next : ℕ} → Taken key (around positionLimit ∷ (around positionLimit ∷ ranges)) s at ns next → (p : Point) → p .x ≡ valueOf (ns .first) → p .y ≡ valueOf (ns .second) → PointWithin positionLimit p
+point-within {ns = ns} t p ex ey =
+    let e = taken-inside t in
+    let f = and-second (inside (around positionLimit) (valueOf (ns .first))) _ e in
+    rw (ex, ey) (around-within positionLimit (valueOf (ns .first)) (and-first _ _ e), around-within positionLimit (valueOf (ns .second)) (and-first _ _ f))
 
 -- a refusal on the line that the reader has come to, line l
 module _ (l : ℕ) (key : List ℕ) (ranges : List Range) (s : List ℕ) (at : ℕ) (cont : List ℤ → List ℕ → Outcome Net) (line : ℕ) (line-is : line ≡ l) where
@@ -77,11 +91,11 @@ module _ (s : List ℕ) (at : ℕ) (ns : Numbers) (next : ℕ) where
   pub need-read : Taken needKey (around needLimit ∷ []) s at ns next → (root : Point) (c d : ℕ) (a : ℤ) → a ≡ valueOf (ns .first) → (r : Head) → Heads (fromCount root c d a (drop next s)) s r → Heads (fromNeed root c d (drop at s)) s r
   need-read t root c d a e r h = heads-in t 4 _ r (rw (← e) h)
 
-pub count-read : (s : List ℕ) (at : ℕ) (ns : Numbers) (next : Place) → Taken sinksKey (upTo sinkLimit ∷ []) s at ns (next .at) → next .line ≡ 6 → at ≤ length s → (root : Point) (h : Header) → Heads (fromCount root (up (h .branch .0)) (h .wire .0) (h .need .0) (drop at s)) s (HeadRead h root (ns .first .mag) next)
-count-read s at ns next t l b root h =
+pub count-read : (s : List ℕ) (at : ℕ) (ns : Numbers) (next : Place) → Taken sinksKey (upTo sinkLimit ∷ []) s at ns (next .at) → next .line ≡ 6 → at ≤ length s → (root : Point) → PointWithin positionLimit root → (h : Header) → Heads (fromCount root (up (h .branch .0)) (h .wire .0) (h .need .0) (drop at s)) s (HeadRead h root (ns .first .mag) next)
+count-read s at ns next t l b root p h =
     heads-in t 5 _ _ (record {
-      reads = ap (λ (k : ℕ). readSinks k 6 (drop (next .at) s) (λ sinks r. ended (k + 6) r (netFrom h root sinks))) (value-abs (ns .first));
-      within = (value-most 1 sinkLimit (ns .first) (and-first _ _ (taken-inside t)), taken-next t b .1, l);
+      reads = ap (λ (k : ℕ). readSinks root k 6 (drop (next .at) s) (λ sinks r. ended (k + 6) r (netFrom h root sinks))) (value-abs (ns .first));
+      within = (value-most 1 sinkLimit (ns .first) (and-first _ _ (taken-inside t)), taken-next t b .1, l, p);
     })
 
 -- ---- "length first"

@@ -36,22 +36,22 @@ netA1 : Net
 netA1 = record { root = netA .root; branch = netA .branch; wire = netA .wire; need = pos 1; sinks = netA .sinks }
 
 read-A : readNet textA ≡ value netA
-unfolding readNet numberThen rowIn begins lineIn field natural digitsValue lead
+unfolding readNet numberThen rowIn begins lineIn field natural digitsValue lead distance span
 read-A = refl
 
 read-A1 : readNet textA1 ≡ value netA1
-unfolding netA1 readNet numberThen rowIn begins lineIn field natural digitsValue lead
+unfolding netA1 readNet numberThen rowIn begins lineIn field natural digitsValue lead distance span
 read-A1 = refl
 
 tree-of : List ℕ → Tree
 tree-of parents = record { parents = parents; points = at (pos 4) (pos 0) ∷ (at (pos 4) (pos 0) ∷ []) }
 
 read-root : readNet textRootNearest ≡ value rootNearest
-unfolding readNet numberThen rowIn begins lineIn field natural digitsValue lead
+unfolding readNet numberThen rowIn begins lineIn field natural digitsValue lead distance span
 read-root = refl
 
 read-sink : readNet textNearerSink ≡ value nearerSink
-unfolding readNet numberThen rowIn begins lineIn field natural digitsValue lead
+unfolding readNet numberThen rowIn begins lineIn field natural digitsValue lead distance span
 read-sink = refl
 
 -- a net that is read as N and a listing that is read as G, judged

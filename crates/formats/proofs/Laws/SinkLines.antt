@@ -1,21 +1,30 @@
 -- The lines of the sinks, read one by one into the places 1 to n of the arrays. Assumes nothing.
 use Prim.Native.Nat.{ℕ, zero, suc, _+_, _-_, _≤_, _<_}
 use mathlib.Core.Path.{_≡_, refl, ap, ap₂, sym, _∙_}
+use mathlib.Core.Bool.{true, false}
 use mathlib.Core.List.{List, [], _∷_, _++_, map, append-assoc, append-nil, map-append}
 use native.Mathlib.Omega.{arith}
 use lib.ListN.{length, getD, drop, set, length-set, drop-of-length-le}
 use lib.Seq.{drop-cons, getD-set-same, getD-set-other}
+use lib.Dec.{ltb}
 use lib.IntN.{ℤ, pos}
 use Rattle.quantities.specs.declared.point.Point.{Point}
+use Rattle.quantities.specs.Distance.{distance}
 use Rattle.tree.specs.declared.header.Header.{Header}
 use Rattle.tree.specs.Lists.{range}
 use Rattle.tree.specs.Net.{Net, Sink, sinkNumbers}
 use Rattle.tree.specs.Arrays.{pointAt, netOf}
 use Rattle.tree.proofs.Laws.Tables.{table-cong}
-use Rattle.formats.specs.Reading.{Outcome, value, refused, due, ended}
-use Rattle.formats.specs.NetText.{sinkKey, sinkRanges, sinkOf, readSinks}
+use Rattle.formats.specs.Reading.{Outcome, value, refused, ended}
+use Rattle.formats.specs.Line.{lineIn}
+use Rattle.formats.specs.Scanning.{lineAt}
+use Rattle.formats.specs.NetText.{pinLimit, sinkKey, sinkRanges, pointOf, sinkOf, nearThen, dueSink, readSinks}
+use Rattle.formats.specs.declared.scan.Numbers.{Numbers}
+use Rattle.formats.specs.declared.scan.Line.the-variants.{Spelt, Misspelled}
 use Rattle.formats.specs.declared.reader.Place.{Place}
-use Rattle.formats.specs.Readers.{netFrom, fromSinks, SinkStored}
+use Rattle.formats.specs.Readers.{netFrom, fromSinks, SinkStored, SinkTurned}
+use Rattle.formats.proofs.Laws.Due.{valueOf, Failed, listed, values, due-wrong, due-out}
+use Rattle.formats.proofs.Laws.Heads.{Taken, taken-due}
 
 -- the sink that the arrays hold at a place, and those at the places 1 to k
 abbrev heldSink : List ℤ → List ℤ → List ℤ → ℕ → Sink
@@ -30,15 +39,15 @@ range-snoc a (suc k) = ap (λ (l : List ℕ). a ∷ l) (range-snoc (suc a) k ∙
 
 -- k lines, from line l on, after sinks that are read
 abbrev restSinks : Header → Point → ℕ → ℕ → ℕ → List ℕ → List Sink → Outcome Net
-restSinks h root n k l s before = readSinks k l s (λ sinks r. ended (n + 6) r (netFrom h root (before ++ sinks)))
+restSinks h root n k l s before = readSinks root k l s (λ sinks r. ended (n + 6) r (netFrom h root (before ++ sinks)))
 
 -- the sinks after those `before` and the one of a line that was read
-abbrev moreSinks : Header → Point → ℕ → ℕ → List Sink → List ℤ → List ℕ → Outcome Net
-moreSinks h root n done before zs r = restSinks h root n (n - suc done) (suc (6 + done)) r (before ++ (sinkOf zs ∷ []))
+abbrev moreSinks : Header → Point → ℕ → ℕ → List Sink → Sink → List ℕ → Outcome Net
+moreSinks h root n done before sink r = restSinks h root n (n - suc done) (suc (6 + done)) r (before ++ (sink ∷ []))
 
 module _ (h : Header) (root : Point) (n : ℕ) where
-  rest-more : (k l : ℕ) (s : List ℕ) (before : List Sink) → restSinks h root n (suc k) l s before ≡ due l sinkKey sinkRanges s (λ zs r. restSinks h root n k (suc l) r (before ++ (sinkOf zs ∷ [])))
-  rest-more k l s before = simp append-assoc
+  rest-more : (k l : ℕ) (s : List ℕ) (before : List Sink) → restSinks h root n (suc k) l s before ≡ dueSink root l s (λ sink r. restSinks h root n k (suc l) r (before ++ (sink ∷ [])))
+  rest-more k l s before = λ i. dueSink root l s (λ sink r. readSinks root k (suc l) r (λ sinks q. ended (n + 6) q (netFrom h root (sym (append-assoc before (sink ∷ []) sinks) i))))
 
 -- one sink more in the arrays
 module _ (xs ys required : List ℤ) (x y a : ℤ) (k i : ℕ) (e : i ≡ suc k) (px : i < length xs) (py : i < length ys) (pr : i < length required) where
@@ -62,6 +71,31 @@ module _ (xs ys required : List ℤ) (x y a : ℤ) (k i : ℕ) (e : i ≡ suc k)
       let f = heldSink (set xs i x) (set ys i y) (set required i a) in
       let u : range 1 i ≡ range 1 k ++ (i ∷ []) = ap (range 1) e ∙ range-snoc 1 k ∙ ap (λ (v : ℕ). range 1 k ++ (v ∷ [])) (omega arith) in
       ap (map f) u ∙ map-append f (range 1 k) (i ∷ []) ∙ ap₂ _++_ (table-cong f (heldSink xs ys required) 1 k held-other) (ap (λ (v : Sink). v ∷ []) held-same)
+
+-- ---- the line of a sink, from what the scanner answered
+
+module _ (root : Point) (s : List ℕ) (here : Place) where
+  pub sink-wrong : Misspelled ≡ lineAt (here .at) (lineIn sinkKey 3 (drop (here .at) s)) → SinkTurned root s here 2
+  sink-wrong e l cont = due-wrong l sinkKey sinkRanges s (here .at) (nearThen root l cont) e
+
+  pub sink-out : (ns : Numbers) (next : ℕ) → Spelt ns next ≡ lineAt (here .at) (lineIn sinkKey 3 (drop (here .at) s)) → Failed sinkRanges (listed ns) → SinkTurned root s here 3
+  sink-out ns next e f l cont = due-out l sinkKey sinkRanges s (here .at) (nearThen root l cont) (omega arith) ns next e f
+
+  module _ (ns : Numbers) (next : ℕ) (t : Taken sinkKey sinkRanges s (here .at) ns next) (pin : Point) (ex : pin .x ≡ valueOf (ns .first)) (ey : pin .y ≡ valueOf (ns .second)) where
+    pin-is : pin ≡ pointOf (values sinkRanges (listed ns))
+    pin-is = λ i. record { x = ex i; y = ey i }
+
+    pub sink-far : true ≡ ltb pinLimit (distance root pin) → SinkTurned root s here 13
+    sink-far e l cont =
+        let q : ltb pinLimit (distance root (pointOf (values sinkRanges (listed ns)))) ≡ true = sym (e ∙ ap (λ (p : Point). ltb pinLimit (distance root p)) pin-is) in
+        taken-due t l (nearThen root l cont) ∙ rw (q, nearThen)
+
+    pub sink-near : false ≡ ltb pinLimit (distance root pin) → (l : ℕ) (cont : Sink → List ℕ → Outcome Net) → dueSink root l (drop (here .at) s) cont ≡ cont (sinkOf (values sinkRanges (listed ns))) (drop next s)
+    sink-near e l cont =
+        let q : ltb pinLimit (distance root (pointOf (values sinkRanges (listed ns)))) ≡ false = sym (e ∙ ap (λ (p : Point). ltb pinLimit (distance root p)) pin-is) in
+        taken-due t l (nearThen root l cont) ∙ rw (q, nearThen)
+
+-- ---- the lines of the sinks
 
 -- `done` sinks are read, and the next line stands at `here`
 pub record Sinking (root : Point) (n : ℕ) (s : List ℕ) (start : ℕ) (xs ys required : List ℤ) (here : Place) (done : ℕ) : Type 0 where
@@ -90,20 +124,20 @@ sinking-start root n s from xs ys required p l px py pr r =
 
 module _ (root : Point) (n : ℕ) (s : List ℕ) (start : ℕ) (xs ys required : List ℤ) where
   module _ (here : Place) (done : ℕ) (g : Sinking root n s start xs ys required here done) where
-    sinking-due : (h : Header) → done < n → fromSinks h root n (drop start s) ≡ due (6 + done) sinkKey sinkRanges (drop (here .at) s) (moreSinks h root n done (heldSinks xs ys required done))
+    sinking-due : (h : Header) → done < n → fromSinks h root n (drop start s) ≡ dueSink root (6 + done) (drop (here .at) s) (moreSinks h root n done (heldSinks xs ys required done))
     sinking-due h p =
         let e : n - done ≡ suc (n - suc done) = omega arith in
         g .reads h
         ∙ ap (λ (k : ℕ). restSinks h root n k (6 + done) (drop (here .at) s) (heldSinks xs ys required done)) e
         ∙ rest-more h root n (n - suc done) (6 + done) (drop (here .at) s) (heldSinks xs ys required done)
 
-    pub sinking-refused : done < n → (k : ℕ) → ((l : ℕ) (cont : List ℤ → List ℕ → Outcome Net) → due l sinkKey sinkRanges (drop (here .at) s) cont ≡ refused k l) → (h : Header) → fromSinks h root n (drop start s) ≡ refused k (here .line)
-    sinking-refused p k e h = sinking-due h p ∙ e (6 + done) _ ∙ ap (refused k) (sym (g .line-is))
+    pub sinking-refused : done < n → (k : ℕ) → SinkTurned root s here k → (h : Header) → fromSinks h root n (drop start s) ≡ refused k (here .line)
+    sinking-refused p k e h = sinking-due h p ∙ e (6 + done) (moreSinks h root n done (heldSinks xs ys required done)) ∙ ap (refused k) (sym (g .line-is))
 
-    pub sinking-more : done < n → (next : Place) (xs′ ys′ required′ : List ℤ) → SinkStored s here (done + 1) xs ys required next xs′ ys′ required′ → Sinking root n s start xs′ ys′ required′ next (done + 1)
-    sinking-more p next xs′ ys′ required′ t = go (t .x) (t .y) (t .a) (λ h. t .reads (6 + done) _) (t .xs-is) (t .ys-is) (t .required-is)
+    pub sinking-more : done < n → (next : Place) (xs′ ys′ required′ : List ℤ) → SinkStored root s here (done + 1) xs ys required next xs′ ys′ required′ → Sinking root n s start xs′ ys′ required′ next (done + 1)
+    sinking-more p next xs′ ys′ required′ t = go (t .x) (t .y) (t .a) (λ h. t .reads (6 + done) (moreSinks h root n done (heldSinks xs ys required done))) (t .xs-is) (t .ys-is) (t .required-is)
       where
-        go : (x y a : ℤ) → ((h : Header) → due (6 + done) sinkKey sinkRanges (drop (here .at) s) (moreSinks h root n done (heldSinks xs ys required done)) ≡ moreSinks h root n done (heldSinks xs ys required done) (x ∷ (y ∷ (a ∷ []))) (drop (next .at) s)) → xs′ ≡ set xs (done + 1) x → ys′ ≡ set ys (done + 1) y → required′ ≡ set required (done + 1) a → Sinking root n s start xs′ ys′ required′ next (done + 1)
+        go : (x y a : ℤ) → ((h : Header) → dueSink root (6 + done) (drop (here .at) s) (moreSinks h root n done (heldSinks xs ys required done)) ≡ moreSinks h root n done (heldSinks xs ys required done) (sinkOf (x ∷ (y ∷ (a ∷ [])))) (drop (next .at) s)) → xs′ ≡ set xs (done + 1) x → ys′ ≡ set ys (done + 1) y → required′ ≡ set required (done + 1) a → Sinking root n s start xs′ ys′ required′ next (done + 1)
         go x y a e ex ey er =
             let m = held-more xs ys required x y a done (done + 1) (omega arith) (omega (arith, g .xs-long)) (omega (arith, g .ys-long)) (omega (arith, g .required-long)) in
             let d : 0 ≡ done + 1 → ⊥ = λ w. omega arith in

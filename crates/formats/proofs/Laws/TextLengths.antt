@@ -1,4 +1,4 @@
--- The text of a net in range, or of a listing in range, is within its length, so it is in the format. Assumes nothing.
+-- The text of a net in range, or of a listing in range, is within its length; so it is in the format, that of a net where its pins are near enough. Assumes nothing.
 use Prim.Native.Nat.{ℕ, zero, suc, _+_, _*_, _-_, _^_, _≤_, _<_}
 use mathlib.Core.Path.{_≡_, refl}
 use mathlib.Core.Logic.{_⊎_}
@@ -13,11 +13,12 @@ use Rattle.tree.specs.Net.{Net, Sink, size}
 use Rattle.tree.specs.Tree.{parentOf}
 use Rattle.tree.specs.Limits.{positionLimit, needLimit, requiredLimit, slackLimit, InRange}
 use Rattle.formats.specs.Decimal.{show}
-use Rattle.formats.specs.NetText.{netLengthLimit, sinksText, netText, InFormat}
+use Rattle.formats.specs.NetText.{netLengthLimit, pinLimit, sinksText, netLines, netText, pinDistance, InFormat}
 use Rattle.formats.specs.ListingText.{listingLengthLimit, Listing, nodePoint, leafText, nodeText, linesText, listingText, ListingInRange, ListingInFormat}
 use Rattle.formats.proofs.Laws.Decimal.{showNat-length, show-length}
 use Rattle.formats.proofs.Laws.Elements.{All}
-use Rattle.formats.proofs.Laws.NetTexts.{SinkIn, sinks-in}
+use Rattle.formats.proofs.Laws.SinkTexts.{SinkIn}
+use Rattle.formats.proofs.Laws.NetTexts.{sinks-in}
 
 -- ---- numbers
 
@@ -42,7 +43,7 @@ sinks-short (s ∷ l) h =
     (omega (arith, position (s .at .x) (h .0 .0 .0), position (s .at .y) (h .0 .0 .1), ranged requiredLimit 13 (s .required) (h .0 .1) (omega arith) (omega arith), sinks-short l (h .1)))
 
 pub net-short : (N : Net) → InRange N → length (netText N) ≤ netLengthLimit
-unfolding netText
+unfolding netLines
 net-short N h =
     simp length-append
     (omega (
@@ -103,10 +104,10 @@ module _ (n : ℕ) (G : Listing) (h : ListingInRange n G) where
   pub listing-short : length (listingText n G) ≤ listingLengthLimit
   listing-short = omega (arith, listing-bound, h .sinks)
 
--- ---- so what is in range has a text in the format
+-- ---- so what is in range, and near enough, has a text in the format
 
-pub net-in-format : (N : Net) → InRange N → InFormat (netText N) N
-net-in-format N h = record { spelled = refl; in-range = h; short = net-short N h }
+pub net-in-format : (N : Net) → InRange N → ((v : ℕ) → 1 ≤ v → v ≤ size N → pinDistance N v ≤ pinLimit) → InFormat (netText N) N
+net-in-format N h near = record { spelled = refl; in-range = h; near = near; short = net-short N h }
 
 pub listing-in-format : (n : ℕ) (G : Listing) → ListingInRange n G → ((i : ℕ) → i < length (G .tree .parents) → (getD (G .tree .parents) i 0 ≡ 0) ⊎ (n < getD (G .tree .parents) i 0)) → ListingInFormat n (listingText n G) G
 listing-in-format n G h f = record { spelled = refl; in-range = h; short = listing-short n G h; no-sink = f }

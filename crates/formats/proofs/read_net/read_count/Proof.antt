@@ -77,7 +77,7 @@ returns-3 : tie.Need-returns-3
 returns-3 c =
     let b = c .before .before .before .before .before .before .before .before .before in
     let t = c .before .before .before in
-    count-read _ _ _ (next t) (taken c) (omega (arith, there t .1, b .pre .1)) (b .pre .0) (b .args .root) (b .args .header)
+    count-read _ _ _ (next t) (taken c) (omega (arith, there t .1, b .pre .1)) (b .pre .0) (b .args .root) (b .pre .2) (b .args .header)
 
 pub read-count-spec : {M : Type 1} → statement M
 read-count-spec =

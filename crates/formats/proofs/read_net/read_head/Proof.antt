@@ -18,7 +18,7 @@ use Rattle.formats.specs.declared.scan.Line.the-variants.{Spelt}
 use Rattle.formats.specs.declared.reader.Place.{Place}
 use Rattle.formats.proofs.Laws.Due.{around-narrow}
 use Rattle.formats.proofs.Laws.Taking.{wrong-line, right-line}
-use Rattle.formats.proofs.Laws.Heads.{Taken, taken-small, taken-next, heads-wrong, heads-out, root-read, net-long, net-short}
+use Rattle.formats.proofs.Laws.Heads.{Taken, taken-small, taken-next, point-within, heads-wrong, heads-out, root-read, net-long, net-short}
 use Rattle.formats.proofs.read_net.read_head.Statement.{statement}
 use Rattle.formats.proofs.read_net.read_head.Tie as tie
 
@@ -93,7 +93,14 @@ value-requires-2 : tie.Need-value-requires-2
 value-requires-2 c κs = taken-small (taken (c .before)) .1 .0
 
 read-branch-requires : tie.Need-read-branch-requires
-read-branch-requires c κs = (taken-next (taken (c .before .before)) (omega arith) .1, there (c .before .before .before .before .before .before .before .before) .1)
+read-branch-requires c κs =
+    let t = taken (c .before .before) in
+    let v = c .before .value in
+    let w = c .value2 in (
+      taken-next t (omega arith) .1,
+      there (c .before .before .before .before .before .before .before .before) .1,
+      point-within t _ (toZ-ofZ (fit (v .result) (v .ok)) ∙ v .ensures) (toZ-ofZ (fit (w .result) (w .ok)) ∙ w .ensures),
+    )
 
 returns-5 : tie.Need-returns-5
 returns-5 c =

@@ -85,7 +85,7 @@ read-count-requires : tie.Need-read-count-requires
 read-count-requires c κs =
     let e = c .before .before in
     let t = e .before .before .before in
-    (taken-next (taken e) (start t .pre .0) .1, omega (arith, there t .1, start t .pre .1))
+    (taken-next (taken e) (start t .pre .0) .1, omega (arith, there t .1, start t .pre .1), start t .pre .2)
 
 returns-3 : tie.Need-returns-3
 returns-3 c =

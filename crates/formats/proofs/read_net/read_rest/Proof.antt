@@ -1,12 +1,10 @@
-use mathlib.Core.Path.{ap, _∙_}
-use lib.ListN.{drop, length-set}
+use mathlib.Core.Path.{_∙_}
+use lib.ListN.{length-set}
 use denote.Ref.{now}
 use native.Mathlib.Omega.{arith}
 use mir.Facts.{toZ-ofZ}
 use borrow.Author.Needs.{needs}
 use Rattle.quantities.specs.Linear.{fit}
-use Rattle.quantities.specs.declared.point.Point.{Point}
-use Rattle.formats.specs.Readers.{fromSinks}
 use Rattle.formats.proofs.Laws.SinkLines.{root-stored}
 use Rattle.formats.proofs.read_net.read_rest.Statement.{statement}
 use Rattle.formats.proofs.read_net.read_rest.Tie as tie
@@ -18,25 +16,32 @@ slice-set-from-y : tie.Need-slice-set-from-y
 slice-set-from-y c = search needs
 
 read-sinks-requires : tie.Need-read-sinks-requires
-read-sinks-requires c κs = search needs
+read-sinks-requires c κs =
+    let b = c .before .before .before .before .before .before in
+    let a = b .args in
+    let ex = toZ-ofZ (fit (a .root .x) (c .before .before .before .before .struct-told .given .0 .1)) in
+    let ey = toZ-ofZ (fit (a .root .y) (c .before .before .before .struct-told2 .given .1 .0 .1)) in (
+      b .pre .0,
+      b .pre .1,
+      b .pre .2,
+      root-stored (a .root) (now (a .xs)) (now (a .ys)) (omega (arith, b .pre .4)) (omega (arith, b .pre .5)) _ _ ex ey,
+      b .pre .3,
+      rw length-set (b .pre .4),
+      rw length-set (b .pre .5),
+      b .pre .6,
+    )
 
 same-length : tie.Need-same-length
-same-length c = c .before .before .before .read-sinks .kept .1 .1 .1 .0 ∙ simp length-set
+same-length c = c .before .before .before .read-sinks .kept .1 .1 .1 .1 .0 ∙ simp length-set
 
 same-length-2 : tie.Need-same-length-2
-same-length-2 c = c .before .before .before .read-sinks .kept .1 .1 .1 .1 .0 ∙ simp length-set
+same-length-2 c = c .before .before .before .read-sinks .kept .1 .1 .1 .1 .1 .0 ∙ simp length-set
 
 same-length-3 : tie.Need-same-length-3
 same-length-3 c = search needs
 
 returns : tie.Need-returns
-returns c h =
-    let b = c .before .before .before .before .before .before .before .before .before .before in
-    let a = b .args in
-    let ex = toZ-ofZ (fit (a .root .x) (c .before .before .before .before .before .before .before .before .struct-told .given .0 .1)) in
-    let ey = toZ-ofZ (fit (a .root .y) (c .before .before .before .before .before .before .before .struct-told2 .given .1 .0 .1)) in
-    ap (λ (p : Point). fromSinks h p (a .n) (drop (a .next .at) (now (a .text)))) (root-stored (a .root) (now (a .xs)) (now (a .ys)) (omega (arith, b .pre .3)) (omega (arith, b .pre .4)) _ _ ex ey)
-    ∙ c .before .before .before .read-sinks .ensures h
+returns c h = c .before .before .before .read-sinks .ensures h
 
 pub read-rest-spec : {M : Type 1} → statement M
 read-rest-spec =

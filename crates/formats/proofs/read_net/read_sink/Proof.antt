@@ -1,3 +1,4 @@
+-- The line of a sink is refused by 2, 3 or 13, or stored: by what the scanner, the ranges and the pin limit tell, in this order. No loop.
 use Prim.Native.Nat.{ℕ, _+_}
 use mathlib.Core.Path.{_≡_, ap, sym, _∙_}
 use mathlib.Core.Logic.{inl, inr}
@@ -5,20 +6,26 @@ use mathlib.Core.List.{List}
 use lib.ListN.{drop, set}
 use denote.Ref.{now}
 use native.Mathlib.Omega.{arith}
+use lib.IntN.{ℤ}
+use mir.Syntax.{w64}
+use mir.Val.{toZ, ofZ}
 use mir.Facts.{toZ-ofZ}
 use borrow.Author.Needs.{needs}
 use borrow.Author.Tests.{not-true, not-false}
 use Rattle.quantities.specs.Linear.{fit}
+use Rattle.quantities.specs.declared.point.Point.{Point}
 use Rattle.tree.specs.Limits.{positionLimit, requiredLimit}
 use Rattle.formats.specs.Line.{lineIn}
 use Rattle.formats.specs.NetText.{sinkKey, sinkRanges}
+use Rattle.formats.specs.Readers.{SinkTurned}
 use Rattle.formats.specs.Scanning.{lineAt}
 use Rattle.formats.specs.declared.scan.Numbers.{Numbers}
 use Rattle.formats.specs.declared.scan.Line.the-variants.{Spelt}
 use Rattle.formats.specs.declared.reader.Place.{Place}
-use Rattle.formats.proofs.Laws.Due.{around-narrow, due-wrong, due-out}
+use Rattle.formats.proofs.Laws.Due.{Failed, listed, around-narrow}
 use Rattle.formats.proofs.Laws.Taking.{wrong-line, right-line}
-use Rattle.formats.proofs.Laws.Heads.{Taken, taken-due, taken-small, taken-next}
+use Rattle.formats.proofs.Laws.Heads.{Taken, taken-small, taken-next, point-within}
+use Rattle.formats.proofs.Laws.SinkLines.{sink-wrong, sink-out, sink-far, sink-near}
 use Rattle.formats.proofs.read_net.read_sink.Statement.{statement}
 use Rattle.formats.proofs.read_net.read_sink.Tie as tie
 
@@ -30,6 +37,9 @@ text t = now (start t .args .text)
 
 abbrev here : tie.After-known-told → Place
 here t = start t .args .here
+
+abbrev root : tie.After-known-told → Point
+root t = start t .args .root
 
 abbrev numbers : tie.After-known-told → Numbers
 numbers t = t .before .numbers .given .0 .0
@@ -52,40 +62,41 @@ enum-told c = search needs
 returns : tie.Need-returns
 returns c =
     let a = c .before .before .before .before .before .args in
-    λ l cont. due-wrong l sinkKey sinkRanges (now (a .text)) (a .here .at) cont (wrong-line sinkKey 3 (now (a .text)) (a .here .at) (a .here .line) (sym (c .enum-told .given .1) ∙ c .before .before .read-line .ensures))
+    sink-wrong (a .root) (now (a .text)) (a .here) (wrong-line sinkKey 3 (now (a .text)) (a .here .at) (a .here .line) (sym (c .enum-told .given .1) ∙ c .before .before .read-line .ensures))
 
 there : (t : tie.After-known-told) → (Spelt (numbers t) (next t .at) ≡ lineAt (here t .at) (lineIn sinkKey 3 (drop (here t .at) (text t)))) × (next t .line ≡ here t .line + 1)
 there t = right-line sinkKey 3 (text t) (here t .at) (here t .line) (numbers t) (next t) (sym (t .before .numbers .given .1) ∙ t .before .before .before .read-line .ensures)
+
+out : (t : tie.After-known-told) → Failed sinkRanges (listed (numbers t)) → SinkTurned (root t) (text t) (here t) 3
+out t f = sink-out (root t) (text t) (here t) (numbers t) (next t .at) (there t .0) f
 
 is-around-requires : tie.Need-is-around-requires
 is-around-requires c κs = search needs
 
 returns-2 : tie.Need-returns-2
-returns-2 c =
-    let t = c .before .before .before .before .before in
-    λ l cont. due-out l sinkKey sinkRanges (text t) (here t .at) cont (omega arith) (numbers t) (next t .at) (there t .0) (inl (λ z e. sym (not-true _ (c .if1 .taken)) ∙ c .before .is-around .ensures z e))
+returns-2 c = out (c .before .before .before .before .before) (inl (λ z e. sym (not-true _ (c .if1 .taken)) ∙ c .before .is-around .ensures z e))
 
 is-around-requires-2 : tie.Need-is-around-requires-2
 is-around-requires-2 c κs = search needs
 
 returns-3 : tie.Need-returns-3
-returns-3 c =
-    let t = c .before .before .before .before .before .before .before in
-    λ l cont. due-out l sinkKey sinkRanges (text t) (here t .at) cont (omega arith) (numbers t) (next t .at) (there t .0) (inr (inl (λ z e. sym (not-true _ (c .if2 .taken)) ∙ c .before .is-around2 .ensures z e)))
+returns-3 c = out (c .before .before .before .before .before .before .before) (inr (inl (λ z e. sym (not-true _ (c .if2 .taken)) ∙ c .before .is-around2 .ensures z e)))
 
 is-around-requires-3 : tie.Need-is-around-requires-3
 is-around-requires-3 c κs = search needs
 
 returns-4 : tie.Need-returns-4
-returns-4 c =
-    let t = c .before .before .before .before .before .before .before .before .before in
-    λ l cont. due-out l sinkKey sinkRanges (text t) (here t .at) cont (omega arith) (numbers t) (next t .at) (there t .0) (inr (inr (inl (λ z e. sym (not-true _ (c .if3 .taken)) ∙ c .before .is-around3 .ensures z e))))
+returns-4 c = out (c .before .before .before .before .before .before .before .before .before) (inr (inr (inl (λ z e. sym (not-true _ (c .if3 .taken)) ∙ c .before .is-around3 .ensures z e))))
 
-taken : (c : tie.Else3) → Taken sinkKey sinkRanges (text (c .before .before .before .before .before .before .before .before .before)) (here (c .before .before .before .before .before .before .before .before .before) .at) (numbers (c .before .before .before .before .before .before .before .before .before)) (next (c .before .before .before .before .before .before .before .before .before) .at)
+-- the numbers of the line, where they are all in range
+abbrev line : tie.Else3 → tie.After-known-told
+line c = c .before .before .before .before .before .before .before .before .before
+
+taken : (c : tie.Else3) → Taken sinkKey sinkRanges (text (line c)) (here (line c) .at) (numbers (line c)) (next (line c) .at)
 taken c =
     record {
       few = omega arith;
-      spelt = there (c .before .before .before .before .before .before .before .before .before) .0;
+      spelt = there (line c) .0;
       narrow = (around-narrow positionLimit (omega arith), (around-narrow positionLimit (omega arith), (around-narrow requiredLimit (omega arith), tt)));
       passed = (
         (λ z e. sym (not-false _ (c .before .before .before .before .if1 .left)) ∙ c .before .before .before .before .before .is-around .ensures z e),
@@ -99,33 +110,51 @@ taken c =
 value-requires : tie.Need-value-requires
 value-requires c κs = taken-small (taken c) .0
 
-mul-ys : tie.Need-mul-ys
-mul-ys c =
-    let p = start (c .before .before .before .before .before .before .before .before .before .before) in
-    let g = p .good .1 .1 .1 .0 in
-    let b = p .pre .2 in
-    search needs
-
-slice-set-from-ys : tie.Need-slice-set-from-ys
-slice-set-from-ys c = search needs
-
 value-requires-2 : tie.Need-value-requires-2
 value-requires-2 c κs = taken-small (taken (c .before)) .1 .0
 
-mul-required : tie.Need-mul-required
-mul-required c = mul-ys (c .before)
+is-far-requires : tie.Need-is-far-requires
+is-far-requires c κs =
+    let e = c .before .before in
+    let v = c .before .value in
+    let w = c .value2 in
+    (start (line e) .pre .2, point-within (taken e) _ (toZ-ofZ (fit (v .result) (v .ok)) ∙ v .ensures) (toZ-ofZ (fit (w .result) (w .ok)) ∙ w .ensures))
+
+returns-5 : tie.Need-returns-5
+returns-5 c =
+    let e = c .before .before .before .before in
+    let v = c .before .before .before .value in
+    let w = c .before .before .value2 in
+    sink-far (root (line e)) (text (line e)) (here (line e)) (numbers (line e)) (next (line e) .at) (taken e) _ (toZ-ofZ (fit (v .result) (v .ok)) ∙ v .ensures) (toZ-ofZ (fit (w .result) (w .ok)) ∙ w .ensures) (sym (c .if4 .taken) ∙ c .before .is-far .ensures)
+
+-- the third number of the line and those before it are in range, where the pin is near enough
+abbrev passed : tie.After-struct-told2 → tie.Else3
+passed c = c .before .before .before .before .before .before
+
+mul-x : tie.Need-mul-x
+mul-x c =
+    let p = start (line (passed c)) in
+    let g = p .good .1 .1 .1 .1 .0 in
+    let b = p .pre .3 in
+    search needs
+
+slice-set-from-x : tie.Need-slice-set-from-x
+slice-set-from-x c = search needs
+
+mul-y : tie.Need-mul-y
+mul-y c = mul-x c
+
+slice-set-from-y : tie.Need-slice-set-from-y
+slice-set-from-y c = search needs
+
+value-requires-3 : tie.Need-value-requires-3
+value-requires-3 c κs = taken-small (taken (passed c)) .1 .1 .0
+
+mul-t25 : tie.Need-mul-t25
+mul-t25 c = mul-x (c .before)
 
 slice-set-from-required : tie.Need-slice-set-from-required
 slice-set-from-required c = search needs
-
-value-requires-3 : tie.Need-value-requires-3
-value-requires-3 c κs = taken-small (taken (c .before .before)) .1 .1 .0
-
-mul-t19 : tie.Need-mul-t19
-mul-t19 c = mul-ys (c .before .before)
-
-slice-set-from-required-2 : tie.Need-slice-set-from-required-2
-slice-set-from-required-2 c = search needs
 
 same-length : tie.Need-same-length
 same-length c = search needs
@@ -136,23 +165,27 @@ same-length-2 c = search needs
 same-length-3 : tie.Need-same-length-3
 same-length-3 c = search needs
 
-returns-5 : tie.Need-returns-5
-returns-5 c =
-    let p = c .before .before .before .before .before .before .before .before .before .before .before .before .before .before .before .before .before .before in
-    let t = taken (c .before .before .before) in
-    let u = c .before .before .value in
-    let v = c .before .value2 in
-    let w = c .value3 in
+returns-6 : tie.Need-returns-6
+returns-6 c =
+    let d = c .before in
+    let e = passed d in
+    let n = line e in
+    let p = start n in
+    let v = d .before .before .before .before .before .value in
+    let w = d .before .before .before .before .value2 in
+    let u = c .value3 in
+    let x = toZ-ofZ (fit (v .result) (v .ok)) in
+    let y = toZ-ofZ (fit (w .result) (w .ok)) in
     record {
       x = _;
       y = _;
       a = _;
-      reads = λ l cont. taken-due t l cont;
-      within = taken-next t (p .pre .0) .1;
-      line-is = there (c .before .before .before .before .before .before .before .before .before .before .before .before) .1;
-      xs-is = ap (set (now (p .args .xs)) (p .args .s)) (toZ-ofZ (fit (u .result) (u .ok)) ∙ u .ensures);
-      ys-is = ap (set (now (p .args .ys)) (p .args .s)) (toZ-ofZ (fit (v .result) (v .ok)) ∙ v .ensures);
-      required-is = ap (set (now (p .args .required)) (p .args .s)) (toZ-ofZ (fit (w .result) (w .ok)) ∙ w .ensures);
+      reads = λ l cont. sink-near (root n) (text n) (here n) (numbers n) (next n .at) (taken e) _ (x ∙ v .ensures) (y ∙ w .ensures) (sym (d .before .before .if4 .left) ∙ d .before .before .before .is-far .ensures) l cont;
+      within = taken-next (taken e) (p .pre .0) .1;
+      line-is = there n .1;
+      xs-is = ap (set (now (p .args .xs)) (p .args .s)) (ap (λ (z : ℤ). toZ w64 (ofZ w64 z)) x ∙ x ∙ v .ensures);
+      ys-is = ap (set (now (p .args .ys)) (p .args .s)) (ap (λ (z : ℤ). toZ w64 (ofZ w64 z)) y ∙ y ∙ w .ensures);
+      required-is = ap (set (now (p .args .required)) (p .args .s)) (toZ-ofZ (fit (u .result) (u .ok)) ∙ u .ensures);
     }
 
 pub read-sink-spec : {M : Type 1} → statement M
@@ -171,15 +204,17 @@ read-sink-spec =
     is-around-requires-3
     returns-4
     value-requires
-    mul-ys
-    slice-set-from-ys
     value-requires-2
-    mul-required
-    slice-set-from-required
+    is-far-requires
+    returns-5
+    mul-x
+    slice-set-from-x
+    mul-y
+    slice-set-from-y
     value-requires-3
-    mul-t19
-    slice-set-from-required-2
+    mul-t25
+    slice-set-from-required
     same-length
     same-length-2
     same-length-3
-    returns-5)
+    returns-6)

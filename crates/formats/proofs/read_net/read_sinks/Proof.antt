@@ -3,25 +3,24 @@ use mathlib.Core.Path.{_≡_, refl, sym, _∙_}
 use lib.ListN.{length}
 use borrow.Author.Needs.{needs}
 use borrow.Author.Tests.{ltb-true, ltb-false}
-use Rattle.tree.specs.Arrays.{pointAt}
 use Rattle.formats.proofs.Laws.SinkLines.{Sinking, sinking-start, sinking-refused, sinking-more, sinking-left, sinking-end}
 use Rattle.formats.proofs.read_net.read_sinks.Statement.{statement}
 use Rattle.formats.proofs.read_net.read_sinks.Tie as tie
 
 abbrev Inv-loop : tie.InvT-loop
-Inv-loop text n xs₀ ys₀ required₀ here₀ done₀ xs ys required here done =
-    Sinking (pointAt xs₀ ys₀ 0) n text (here₀ .at) xs ys required here done
+Inv-loop text root n xs₀ ys₀ required₀ here₀ done₀ xs ys required here done =
+    Sinking root n text (here₀ .at) xs ys required here done
     × (length xs ≡ length xs₀)
     × (length ys ≡ length ys₀)
     × (length required ≡ length required₀)
 
 abbrev μ-loop : tie.MeasureT-loop
-μ-loop text n xs₀ ys₀ required₀ here₀ done₀ xs ys required here done = n - done
+μ-loop text root n xs₀ ys₀ required₀ here₀ done₀ xs ys required here done = n - done
 
 loop-holds : tie.Need-loop-holds Inv-loop μ-loop
 loop-holds c =
     let b = c .before in
-    (sinking-start _ (b .args .n) _ (b .args .from) _ _ _ (b .pre .0) (b .pre .1) (b .pre .3) (b .pre .4) (b .pre .5) refl, refl, refl, refl)
+    (sinking-start _ (b .args .n) _ (b .args .from) _ _ _ (b .pre .0) (b .pre .1) (b .pre .5) (b .pre .6) (b .pre .7) (b .pre .3), refl, refl, refl)
 
 add-read-sink : tie.Need-add-read-sink Inv-loop μ-loop
 add-read-sink c = search needs
@@ -63,7 +62,7 @@ loop-again c =
     let v = k .before .before .before .before .before .loop in
     let g = c .before .next .given in
     let p = k .read-sink in
-    (sinking-more _ _ _ _ _ _ _ (v .here) (v .done) (v .inv .0) (k .before .before .before .before .loop-test .taken) (g .0 .0) _ _ _ (rw (g .1) at (p .ensures)), p .kept .1 .1 .1 .0 ∙ v .inv .1, p .kept .1 .1 .1 .1 .0 ∙ v .inv .2, p .kept .1 .1 .1 .1 .1 .0 ∙ v .inv .3)
+    (sinking-more _ _ _ _ _ _ _ (v .here) (v .done) (v .inv .0) (k .before .before .before .before .loop-test .taken) (g .0 .0) _ _ _ (rw (g .1) at (p .ensures)), p .kept .1 .1 .1 .1 .0 ∙ v .inv .1, p .kept .1 .1 .1 .1 .1 .0 ∙ v .inv .2, p .kept .1 .1 .1 .1 .1 .1 .0 ∙ v .inv .3)
 
 bytes-follow-requires : tie.Need-bytes-follow-requires Inv-loop μ-loop
 bytes-follow-requires c κs = search needs
