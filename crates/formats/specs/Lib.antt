@@ -7,6 +7,7 @@ pub mod Reading
 pub mod NetText
 pub mod ListingText
 pub mod Writing
+pub mod Ranging
 pub mod Readers
 pub mod ListingReader
 pub mod Refusals

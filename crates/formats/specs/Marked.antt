@@ -1,9 +1,12 @@
--- The marked nets and lines of document 01, those with a star, and two nets of request 1 of 02, as one statement: what is said of texts here, the rest in the tree's own.
+-- The marked nets and lines of document 01, those with a star, and those of requests 1 and 2 of 02, as one statement: what is said of texts here, the rest in the tree's own.
 use Prim.Native.Nat.{ℕ, _≤_}
 use mathlib.Core.Path.{_≡_}
-use mathlib.Core.List.{List}
+use mathlib.Core.List.{List, [], _∷_, _++_}
 use lib.ListN.{length}
 use lib.IntN.{pos, negℤ}
+use Prim.Native.String.{String}
+use Rattle.quantities.specs.declared.point.Point.{Point}
+use Rattle.tree.specs.Net.{Net}
 use Rattle.tree.specs.Marked as tree
 use Rattle.formats.specs.Bytes.{bytes}
 use Rattle.formats.specs.NetText.{InFormat}
@@ -33,6 +36,13 @@ textNearerSink = bytes "root=0,0\nbranch=20\nwire=2\nneed=-40\nsinks=3\nsink=10,
 abbrev pub listingNearerSink : List ℕ
 listingNearerSink = bytes "slack=-40\nwire=21\nsinks=3\nleaf=1,4\nleaf=2,5\nleaf=3,5\nnode=4,0,0,0\nnode=5,4,0,10\n"
 
+-- 02, request 2: a net of one sink, by how its root and the sink's position are spelt, and the net that it is where both are in range
+abbrev pub pinText : String → String → List ℕ
+pinText root pin = bytes "root=" ++ (bytes root ++ (bytes "\nbranch=20\nwire=2\nneed=-2000000000000\nsinks=1\nsink=" ++ (bytes pin ++ bytes ",100\n")))
+
+abbrev pub pinNet : Point → Point → Net
+pinNet root pin = record { root = root; branch = 20; wire = 2; need = negℤ (pos 2_000_000_000_000); sinks = record { at = pin; required = pos 100 } ∷ [] }
+
 pub record Marked : Type 0 where
   pub measures : tree.Marked
   pub A-format : InFormat textA tree.netA
@@ -57,3 +67,15 @@ pub record Marked : Type 0 where
   pub sink-format : InFormat textNearerSink tree.nearerSink
   pub sink-listing : planListing tree.nearerSink ≡ listingNearerSink
   pub sink-judge : judgeOf textNearerSink listingNearerSink ≡ record { number = 0; text = 0; line = 0; slack = negℤ (pos 40); wire = 21; best = negℤ (pos 40) }
+  -- "the case of X 100000 in 01 passes only with a root near enough": else plan and judge give 13,1,6, whatever the output or the listing is
+  pub across-near : InFormat (pinText "60000,0" "100000,0") (pinNet (tree.at (pos 60_000) (pos 0)) (tree.at (pos 100_000) (pos 0)))
+  pub across-plan : (room : ℕ) → planOf (pinText "0,0" "100000,0") room ≡ planRefusal 13 1 6
+  pub across-judge : (listing : List ℕ) → judgeOf (pinText "0,0" "100000,0") listing ≡ judgeRefusal 13 1 6
+  -- "right after 3 on that line": 100001 is out of range, however far off
+  pub across-range : (room : ℕ) → planOf (pinText "0,0" "100001,0") room ≡ planRefusal 3 1 6
+  -- "more than 40,000 micrometres from the root"
+  pub at-limit : InFormat (pinText "0,0" "40000,0") (pinNet (tree.at (pos 0) (pos 0)) (tree.at (pos 40_000) (pos 0)))
+  pub past-limit : (room : ℕ) → planOf (pinText "0,0" "40001,0") room ≡ planRefusal 13 1 6
+  -- the same where |dx| and |dy| both count
+  pub both-at-limit : InFormat (pinText "-10000,5000" "5000,-20000") (pinNet (tree.at (negℤ (pos 10_000)) (pos 5_000)) (tree.at (pos 5_000) (negℤ (pos 20_000))))
+  pub both-past-limit : (room : ℕ) → planOf (pinText "-10000,5000" "5000,-20001") room ≡ planRefusal 13 1 6

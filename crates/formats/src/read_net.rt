@@ -9,7 +9,8 @@ ghost use Rattle.quantities.specs.Reach.{PointWithin};
 ghost use Rattle.tree.specs.Arrays.{pointAt};
 ghost use Rattle.tree.specs.declared.header.Header.{Header};
 ghost use Rattle.tree.specs.Limits.{positionLimit};
-ghost use Rattle.formats.specs.NetText.{pinLimit, readNet};
+ghost use Rattle.formats.specs.NetText.{pinLimit, sinkRanges, readNet};
+ghost use Rattle.formats.specs.Ranging.{Ranged, listed};
 ghost use Rattle.formats.specs.Readers.{afterHead, HeadWithin, Heads, fromBranch, fromWire, fromNeed, fromCount, fromSinks, SinkSays, netOutcome};
 use crate::limits::BRANCH_LIMIT;
 use crate::limits::NEED_LIMIT;
@@ -25,6 +26,7 @@ use crate::reader::Place;
 use crate::reader::Taken;
 use crate::reader::bytes_follow;
 use crate::reader::read_line;
+use crate::scan::Numbers;
 use quantities::length::Length;
 use quantities::point::Point;
 use quantities::point::distance;
@@ -165,6 +167,22 @@ fn is_far(root: Point, pin: Point) -> bool
     Length::of(PIN_LIMIT).is_less(distance(root, pin))
 }
 
+// Whether the numbers of a sink's line are in range.
+fn sink_in_range(numbers: Numbers) -> bool
+    ensures { λ r. ⌜ Ranged r sinkRanges (listed numbers) ⌝ }
+{
+    let x = numbers.first;
+    let y = numbers.second;
+    let arrival = numbers.third;
+    if !is_around(x, POSITION_LIMIT) {
+        return false;
+    }
+    if !is_around(y, POSITION_LIMIT) {
+        return false;
+    }
+    is_around(arrival, REQUIRED_LIMIT)
+}
+
 // The line of sink s, into the place s of the arrays.
 fn read_sink(
     text: &[u8],
@@ -181,18 +199,12 @@ fn read_sink(
     let Taken::AsDue { numbers, next } = read_line(text, here.at, here.line, b"sink=", 3) else {
         return SinkLine::SinkRefused { number: 2 };
     };
+    if !sink_in_range(numbers) {
+        return SinkLine::SinkRefused { number: 3 };
+    }
     let x = numbers.first;
     let y = numbers.second;
     let arrival = numbers.third;
-    if !is_around(x, POSITION_LIMIT) {
-        return SinkLine::SinkRefused { number: 3 };
-    }
-    if !is_around(y, POSITION_LIMIT) {
-        return SinkLine::SinkRefused { number: 3 };
-    }
-    if !is_around(arrival, REQUIRED_LIMIT) {
-        return SinkLine::SinkRefused { number: 3 };
-    }
     let pin = Point {
         x: x.value(),
         y: y.value(),

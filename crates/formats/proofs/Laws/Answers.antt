@@ -18,8 +18,21 @@ use Rattle.tree.specs.Kraft.{kraftMaximum}
 use Rattle.tree.specs.Settling.{plan}
 use Rattle.tree.specs.Defects.{wrongChildren, unreached}
 use Rattle.tree.proofs.Laws.Defects.{Read, legal-only}
+use Rattle.formats.specs.Reading.{refused}
+use Rattle.formats.specs.NetText.{readNet}
 use Rattle.formats.specs.ListingText.{Listing, ListingInFormat}
-use Rattle.formats.specs.Answers.{PlanFigures, planListing, planNet, planBytes, planRefusal, overwritten, JudgeFigures, judgeRefusal, judgeFiguresOf, judgeTree}
+use Rattle.formats.specs.Answers.{PlanFigures, planOf, planListing, planNet, planBytes, planRead, planRefusal, overwritten, JudgeFigures, judgeOf, judgeNet, judgeRefusal, judgeFiguresOf, judgeTree}
+
+-- ---- a net that is refused as it is read
+
+module _ (net : List ℕ) (number line : ℕ) (e : readNet net ≡ refused number line) where
+  pub plan-refused : (room : ℕ) → planOf net room ≡ planRefusal number 1 line
+  unfolding planOf
+  plan-refused room = ap (λ o. planRead o room) e
+
+  pub judge-refused : (listing : List ℕ) → judgeOf net listing ≡ judgeRefusal number 1 line
+  unfolding judgeOf
+  judge-refused listing = ap (λ o. judgeNet o listing) e
 
 -- ---- plan
 

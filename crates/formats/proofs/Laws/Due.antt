@@ -1,7 +1,7 @@
 -- One line that is due, from what the scanner answered and how its numbers were tested. Assumes nothing.
 use Prim.Native.Nat.{ℕ, zero, suc, _+_, _-_, _<_, _≤_}
-use mathlib.Core.Path.{_≡_, refl, ap, sym, _∙_}
-use mathlib.Core.Logic.{_⊎_, inl, inr}
+use mathlib.Core.Path.{_≡_, refl, ap, sym, subst, _∙_}
+use mathlib.Core.Logic.{inl, inr}
 use mathlib.Core.Bool.{Bool, true, false, _&&_, false≢true}
 use mathlib.Core.List.{List, [], _∷_}
 use lib.ListN.{length, drop, length-drop}
@@ -17,6 +17,7 @@ use Rattle.formats.specs.Line.{Row, row, misspelled, lineIn}
 use Rattle.formats.specs.Reading.{Range, inside, allInside, Outcome, refused, ranged, due, rangedAfter, dueFor}
 use Rattle.formats.specs.NetText.{around}
 use Rattle.formats.specs.Scanning.{magnitudeCap, held, heldAll, lineAt}
+use Rattle.formats.specs.Ranging.{listed, Passed, Failed, Ranged}
 use Rattle.formats.specs.declared.number.Number.{Number}
 use Rattle.formats.specs.declared.scan.Numbers.{Numbers}
 use Rattle.formats.specs.declared.scan.Line.the-variants.{Spelt, Misspelled}
@@ -68,10 +69,6 @@ module _ (limit : ℕ) (below : limit < magnitudeCap) where
   pub from-narrow : (a : ℕ) → Narrow (record { from = pos a; to = pos limit })
   from-narrow a = record { low = omega (arith, whole); high = omega (arith, whole) }
 
--- n was tested against r, with the answer t
-abbrev pub Tested : Bool → Range → Number → Type 0
-Tested t r n = (z : ℤ) → n ≡ held z → t ≡ inside r z
-
 module _ (r : Range) (narrow : Narrow r) (n : Number) (z : ℤ) (h : n ≡ held z) (t : inside r z ≡ true) where
   inside-small : natAbs z < magnitudeCap
   inside-small =
@@ -91,9 +88,6 @@ module _ (r : Range) (narrow : Narrow r) (n : Number) (z : ℤ) (h : n ≡ held 
 
 -- ---- the numbers of a line, and a range for each
 
-abbrev pub listed : Numbers → List Number
-listed ns = ns .first ∷ (ns .second ∷ (ns .third ∷ (ns .fourth ∷ [])))
-
 -- the numbers after the first
 abbrev pub others : Numbers → List Number
 others ns = ns .second ∷ (ns .third ∷ (ns .fourth ∷ []))
@@ -102,17 +96,13 @@ abbrev pub AllNarrow : List Range → Type 0
 AllNarrow [] = Unit {0}
 AllNarrow (r ∷ rs) = Narrow r × AllNarrow rs
 
--- every number was found in its range
-abbrev pub Passed : List Range → List Number → Type 0
-Passed [] ns = Unit {0}
-Passed (r ∷ rs) [] = ⊥
-Passed (r ∷ rs) (n ∷ ns) = Tested true r n × Passed rs ns
+-- the numbers were tested, and how it came out
+module _ (t : Bool) (rs : List Range) (ns : List Number) (h : Ranged t rs ns) where
+  pub passed : t ≡ true → Passed rs ns
+  passed e = subst (λ b. Ranged b rs ns) e h
 
--- some number was found out of its range
-abbrev pub Failed : List Range → List Number → Type 0
-Failed [] ns = ⊥
-Failed (r ∷ rs) [] = ⊥
-Failed (r ∷ rs) (n ∷ ns) = Tested false r n ⊎ Failed rs ns
+  pub failed : t ≡ false → Failed rs ns
+  failed e = subst (λ b. Ranged b rs ns) e h
 
 -- a number for each range
 abbrev pub values : List Range → List Number → List ℤ

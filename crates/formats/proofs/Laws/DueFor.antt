@@ -15,7 +15,8 @@ use Rattle.formats.specs.Scanning.{magnitudeCap, lineAt}
 use Rattle.formats.specs.declared.number.Number.{Number}
 use Rattle.formats.specs.declared.scan.Numbers.{Numbers}
 use Rattle.formats.specs.declared.scan.Line.the-variants.{Spelt}
-use Rattle.formats.proofs.Laws.Due.{value-abs, others, values, AllNarrow, Passed, Compared, compared-same, compared-other, dueFor-in}
+use Rattle.formats.specs.Ranging.{Passed}
+use Rattle.formats.proofs.Laws.Due.{value-abs, others, values, AllNarrow, Compared, compared-same, compared-other, dueFor-in}
 
 pub compared-held : (k : ℕ) → k < magnitudeCap → (n : Number) → n .neg ≡ false → Compared (eqb (n .mag) k) k n
 compared-held k below n plain = go (eqb (n .mag) k) refl

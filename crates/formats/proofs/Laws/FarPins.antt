@@ -1,5 +1,5 @@
 -- Plan and judge refuse by 13 exactly the texts with a sink too far from the root: from the reader's laws. Assumes nothing.
-use Prim.Native.Nat.{ℕ, _+_, _≤_}
+use Prim.Native.Nat.{ℕ, _≤_}
 use mathlib.Core.Path.{_≡_, refl, sym, ap, _∙_}
 use mathlib.Core.Bool.{Bool, true, false, _&&_}
 use mathlib.Core.List.{List}
@@ -19,7 +19,7 @@ use Rattle.formats.proofs.Laws.DueTexts.{never}
 use Rattle.formats.proofs.Laws.NetTexts.{net-sound, net-complete, far-sound, far-complete, far-net}
 use Rattle.formats.proofs.Laws.ListingTexts.{listing-refused}
 use Rattle.formats.proofs.Laws.TextLengths.{net-short, net-in-format}
-use Rattle.formats.proofs.Laws.Answers.{Ends, unreachable, short, written, ends, judgedBy}
+use Rattle.formats.proofs.Laws.Answers.{plan-refused, judge-refused, Ends, unreachable, short, written, ends, judgedBy}
 
 -- a net that was read is not refused by 13
 plan-none : (N : Net) (room : ℕ) → planNet N room .number ≡ 13 → ⊥
@@ -66,8 +66,8 @@ judge-far net listing (refused e l) r z = far-sound net l (r ∙ ap (λ (d : ℕ
 pub far-pins : FarPins
 unfolding planOf judgeOf
 far-pins = record {
-  plan-refuses = λ net l f room. ap (λ o. planRead o room) (far-complete net l f);
-  judge-refuses = λ net l f listing. ap (λ o. judgeNet o listing) (far-complete net l f);
+  plan-refuses = λ net l f room. plan-refused net 13 l (far-complete net l f) room;
+  judge-refuses = λ net l f listing. judge-refused net 13 l (far-complete net l f) listing;
   plan-only = λ net room z. plan-far net room (readNet net) refl z;
   judge-only = λ net listing z. judge-far net listing (readNet net) refl z;
   near-inside = net-in-format;

@@ -25,7 +25,8 @@ use Rattle.formats.specs.declared.read_net.Head.the-variants.{HeadRead, 
 use Rattle.formats.specs.declared.scan.Numbers.{Numbers}
 use Rattle.formats.specs.declared.reader.Place.{Place}
 use Rattle.formats.specs.declared.scan.Line.the-variants.{Spelt, Misspelled}
-use Rattle.formats.proofs.Laws.Due.{valueOf, value-abs, value-most, and-first, and-second, AllNarrow, Passed, Failed, AllSmall, listed, values, next-line, due-wrong, due-out, due-in, due-small, due-inside}
+use Rattle.formats.specs.Ranging.{Passed, Failed, listed}
+use Rattle.formats.proofs.Laws.Due.{valueOf, value-abs, value-most, and-first, and-second, AllNarrow, AllSmall, values, next-line, due-wrong, due-out, due-in, due-small, due-inside}
 
 -- the line at `at` is spelt right, with every number in its range; the next one starts at `next`
 pub record Taken (key : List ℕ) (ranges : List Range) (s : List ℕ) (at : ℕ) (ns : Numbers) (next : ℕ) : Type 0 where

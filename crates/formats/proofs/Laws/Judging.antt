@@ -95,7 +95,3 @@ listing-refused N n text number line e = sym (ap (judgeListing N) e)
 pub listing-judged : (net listing : List ℕ) (N : Net) (n : ℕ) → size N ≡ n → readNet net ≡ value N → (f : JudgeFigures) → f ≡ judgeListing N (readListing n listing) → f ≡ judgeOf net listing
 unfolding judgeOf
 listing-judged net listing N n sized e f q = q ∙ ap (λ m. judgeListing N (readListing m listing)) (sym sized) ∙ sym (ap (λ o. judgeNet o listing) e)
-
-pub net-refused : (net listing : List ℕ) (number line : ℕ) → readNet net ≡ refused number line → judgeRefusal number 1 line ≡ judgeOf net listing
-unfolding judgeOf
-net-refused net listing number line e = sym (ap (λ o. judgeNet o listing) e)

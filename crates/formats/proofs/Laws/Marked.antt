@@ -26,9 +26,9 @@ use Rattle.formats.specs.Reading.{value}
 use Rattle.formats.specs.NetText.{readNet}
 use Rattle.formats.specs.ListingText.{Listing, listingText, readListing}
 use Rattle.formats.specs.Answers.{planOf, planListing, planNet, planRead, planRefusal, judgeOf, judgeNet, judgeListing, judgeTree}
-use Rattle.formats.specs.Marked.{textA, textA1, listingA, textRootNearest, listingRootNearest, textNearerSink, listingNearerSink, Marked}
+use Rattle.formats.specs.Marked.{textA, textA1, listingA, textRootNearest, listingRootNearest, textNearerSink, listingNearerSink, pinText, Marked}
 use Rattle.formats.proofs.Laws.NetTexts.{net-sound}
-use Rattle.formats.proofs.Laws.Answers.{Ends, unreachable, short, written, ends}
+use Rattle.formats.proofs.Laws.Answers.{plan-refused, judge-refused, Ends, unreachable, short, written, ends}
 
 -- ---- what the texts are read as
 
@@ -117,7 +117,7 @@ sink-judged = judged-over textNearerSink nearerSink read-sink listingNearerSink
     (record { slack = negℤ (pos 40); wire = 21; tree = record { parents = 4 ∷ (5 ∷ (5 ∷ (0 ∷ (4 ∷ [])))); points = at (pos 0) (pos 0) ∷ (at (pos 0) (pos 10) ∷ []) } }) refl
 
 pub marked : Marked
-unfolding listed tree-of readListing numberThen rowIn begins lineIn field natural digitsValue lead worstSlack wireLength minℤ delay distance span
+unfolding listed tree-of readNet readListing numberThen rowIn begins lineIn field natural digitsValue lead worstSlack wireLength minℤ delay distance span
 marked = record {
   measures = tree.marked;
   A-format = net-sound textA netA read-A;
@@ -135,4 +135,12 @@ marked = record {
   sink-format = net-sound textNearerSink nearerSink read-sink;
   sink-listing = plan-sink;
   sink-judge = sink-judged;
+  across-near = net-sound (pinText "60000,0" "100000,0") _ refl;
+  across-plan = plan-refused (pinText "0,0" "100000,0") 13 6 refl;
+  across-judge = judge-refused (pinText "0,0" "100000,0") 13 6 refl;
+  across-range = plan-refused (pinText "0,0" "100001,0") 3 6 refl;
+  at-limit = net-sound (pinText "0,0" "40000,0") _ refl;
+  past-limit = plan-refused (pinText "0,0" "40001,0") 13 6 refl;
+  both-at-limit = net-sound (pinText "-10000,5000" "5000,-20000") _ refl;
+  both-past-limit = plan-refused (pinText "-10000,5000" "5000,-20001") 13 6 refl;
 }

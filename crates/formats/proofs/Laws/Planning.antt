@@ -20,6 +20,7 @@ use Rattle.formats.specs.Emitting.{emitFigures, emitBytes}
 use Rattle.formats.specs.Writing.{over, Puts}
 use Rattle.formats.proofs.Laws.Writing.{take-over}
 use Rattle.formats.proofs.Laws.TextLengths.{listing-short}
+use Rattle.formats.proofs.Laws.Answers.{plan-refused}
 use Rattle.formats.proofs.Laws.PlanListing.{planned, plan-in-range}
 
 -- ---- the listing of the planned tree
@@ -78,7 +79,7 @@ module _ (n : ℕ) (G : Listing) (blank text : List ℕ) (bytes : ℕ) (put : Pu
 
 pub refused-answer : (s out : List ℕ) (number line : ℕ) → readNet s ≡ refused number line → (planRefusal number 1 line ≡ planOf s (length out)) × (out ≡ planOutput s out)
 unfolding planOf planOutput
-refused-answer s out number line e = (rw (planOf, e) refl, rw (planOutput, e) refl)
+refused-answer s out number line e = (sym (plan-refused s number line e (length out)), rw (planOutput, e) refl)
 
 pub read-answer : (s out left : List ℕ) (N : Net) (r : PlanFigures) → readNet s ≡ value N → (r ≡ planNet N (length out)) × (left ≡ overwritten (planBytes N (length out)) out) → (r ≡ planOf s (length out)) × (left ≡ planOutput s out)
 unfolding planOf planOutput

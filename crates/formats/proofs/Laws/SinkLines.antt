@@ -1,6 +1,6 @@
 -- The lines of the sinks, read one by one into the places 1 to n of the arrays. Assumes nothing.
 use Prim.Native.Nat.{ℕ, zero, suc, _+_, _-_, _≤_, _<_}
-use mathlib.Core.Path.{_≡_, refl, ap, ap₂, sym, _∙_}
+use mathlib.Core.Path.{_≡_, ap, ap₂, sym, _∙_}
 use mathlib.Core.Bool.{true, false}
 use mathlib.Core.List.{List, [], _∷_, _++_, map, append-assoc, append-nil, map-append}
 use native.Mathlib.Omega.{arith}
@@ -23,7 +23,8 @@ use Rattle.formats.specs.declared.scan.Numbers.{Numbers}
 use Rattle.formats.specs.declared.scan.Line.the-variants.{Spelt, Misspelled}
 use Rattle.formats.specs.declared.reader.Place.{Place}
 use Rattle.formats.specs.Readers.{netFrom, fromSinks, SinkStored, SinkTurned}
-use Rattle.formats.proofs.Laws.Due.{valueOf, Failed, listed, values, due-wrong, due-out}
+use Rattle.formats.specs.Ranging.{Failed, listed}
+use Rattle.formats.proofs.Laws.Due.{valueOf, values, due-wrong, due-out}
 use Rattle.formats.proofs.Laws.Heads.{Taken, taken-due}
 
 -- the sink that the arrays hold at a place, and those at the places 1 to k

@@ -13,7 +13,7 @@ use Rattle.quantities.specs.Reach.{Within, PointWithin}
 use Rattle.tree.specs.Net.{Sink}
 use Rattle.tree.specs.Limits.{positionLimit, requiredLimit}
 use Rattle.formats.specs.Reading.{Outcome, refused}
-use Rattle.formats.specs.NetText.{pinLimit, sinkKey, sinkText, sinksText, sinkRanges, pointOf, sinkOf, dueSink, readSinks}
+use Rattle.formats.specs.NetText.{pinLimit, sinkKey, sinkText, sinksText, sinkRanges, sinkOf, dueSink, readSinks}
 use Rattle.formats.proofs.Laws.Elements.{All}
 use Rattle.formats.proofs.Laws.DueTexts.{LineRefusal, due-cases, due-complete}
 
@@ -36,8 +36,7 @@ module _ {A : Type 0} (root : Point) (l : ℕ) where
   sink-cases {C = C} s next o e bad far f =
       due-cases l sinkKey sinkRanges s _ o e bad λ x hx y hy a ha r t u.
       let k : Sink = sinkOf (x ∷ (y ∷ (a ∷ []))) in
-      let go : (b : Bool) → ltb pinLimit (distance root (k .at)) ≡ b → elim b [ true ↦ refused 13 l | false ↦ next k r ] ≡ o → C = λ b q w. cases k r t ((hx, hy), ha) b q w in
-      go (ltb pinLimit (distance root (k .at))) refl u
+      cases k r t ((hx, hy), ha) (ltb pinLimit (distance root (k .at))) refl u
     where
       cases : (k : Sink) (r : List ℕ) → s ≡ sinkText k ++ r → SinkIn k → (b : Bool) → ltb pinLimit (distance root (k .at)) ≡ b → elim b [ true ↦ refused 13 l | false ↦ next k r ] ≡ o → C
       cases k r t h true q w = far k r t h (ltb-true pinLimit (distance root (k .at)) q) (sym w)

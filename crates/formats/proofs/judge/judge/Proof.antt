@@ -1,5 +1,6 @@
+use mathlib.Core.Path.{sym}
 use borrow.Author.Needs.{needs}
-use Rattle.formats.proofs.Laws.Judging.{net-refused}
+use Rattle.formats.proofs.Laws.Answers.{judge-refused}
 use Rattle.formats.proofs.judge.judge.Statement.{statement}
 use Rattle.formats.proofs.judge.judge.Tie as tie
 
@@ -27,7 +28,7 @@ judge-large-requires c κs =
     (rw g at (e .0), w .0, w .1, w .2, w .3)
 
 returns : tie.Need-returns
-returns c = net-refused _ _ _ _ (rw (c .before .number .given .1) at (c .before .before .before .read-head .ensures .0))
+returns c = sym (judge-refused _ _ _ (rw (c .before .number .given .1) at (c .before .before .before .read-head .ensures .0)) _)
 
 returns-2 : tie.Need-returns-2
 returns-2 c = search needs

@@ -1,4 +1,4 @@
-use mathlib.Core.Path.{_≡_, _∙_}
+use mathlib.Core.Path.{_≡_, sym, _∙_}
 use native.Mathlib.Omega.{arith}
 use borrow.Author.Needs.{needs}
 use Rattle.tree.specs.Net.{Net}
@@ -8,7 +8,8 @@ use Rattle.formats.specs.NetText.{readNet}
 use Rattle.formats.specs.Reading.{value}
 use Rattle.formats.specs.Answers.{judgeFigures}
 use Rattle.formats.proofs.Laws.Held.{read-net-holds}
-use Rattle.formats.proofs.Laws.Judging.{listing-judged, net-refused}
+use Rattle.formats.proofs.Laws.Answers.{judge-refused}
+use Rattle.formats.proofs.Laws.Judging.{listing-judged}
 use Rattle.formats.proofs.judge.judge_rest.Statement.{statement}
 use Rattle.formats.proofs.judge.judge_rest.Tie as tie
 
@@ -40,7 +41,7 @@ same-length-3 c = search needs
 returns : tie.Need-returns
 returns c =
     let s = c .before .before .before .before .before .before .before .before .before .before .before .before .before .before in
-    net-refused _ _ _ _ (s .pre .0 .0 ∙ (rw (c .before .number .given .1) at (c .before .before .before .before .before .before .read-rest .ensures (s .args .header))))
+    sym (judge-refused _ _ _ (s .pre .0 .0 ∙ (rw (c .before .number .given .1) at (c .before .before .before .before .before .before .read-rest .ensures (s .args .header)))) _)
 
 enum-told : tie.Need-enum-told
 enum-told c = search needs

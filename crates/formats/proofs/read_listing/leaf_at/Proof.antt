@@ -16,7 +16,8 @@ use Rattle.formats.specs.Scanning.{lineAt}
 use Rattle.formats.specs.declared.scan.Numbers.{Numbers}
 use Rattle.formats.specs.declared.scan.Line.the-variants.{Spelt}
 use Rattle.formats.specs.declared.reader.Place.{Place}
-use Rattle.formats.proofs.Laws.Due.{value-abs, from-narrow, Tested, Compared, next-line, dueFor-wrong, dueFor-other, dueFor-out}
+use Rattle.formats.specs.Ranging.{Tested}
+use Rattle.formats.proofs.Laws.Due.{value-abs, from-narrow, Compared, next-line, dueFor-wrong, dueFor-other, dueFor-out}
 use Rattle.formats.proofs.Laws.Taking.{wrong-line, right-line}
 use Rattle.formats.proofs.Laws.DueFor.{vertex-sink, vertex-in}
 use Rattle.formats.proofs.read_listing.leaf_at.Statement.{statement}

@@ -21,7 +21,8 @@ use Rattle.formats.specs.Scanning.{lineAt}
 use Rattle.formats.specs.declared.scan.Numbers.{Numbers}
 use Rattle.formats.specs.declared.scan.Line.the-variants.{Spelt}
 use Rattle.formats.specs.declared.reader.Place.{Place}
-use Rattle.formats.proofs.Laws.Due.{value-abs, around-narrow, from-narrow, others, AllNarrow, AllSmall, Passed, Compared, next-line, dueFor-wrong, dueFor-other, dueFor-out, dueFor-small}
+use Rattle.formats.specs.Ranging.{Passed}
+use Rattle.formats.proofs.Laws.Due.{value-abs, around-narrow, from-narrow, others, AllNarrow, AllSmall, Compared, next-line, dueFor-wrong, dueFor-other, dueFor-out, dueFor-small}
 use Rattle.formats.proofs.Laws.Taking.{wrong-line, right-line}
 use Rattle.formats.proofs.Laws.DueFor.{vertex-sink, vertex-in}
 use Rattle.formats.proofs.read_listing.node_at.Statement.{statement}

@@ -22,7 +22,8 @@ use Rattle.formats.specs.declared.number.Number.{Number}
 use Rattle.formats.specs.declared.scan.Numbers.{Numbers}
 use Rattle.formats.specs.declared.scan.Line.the-variants.{Spelt}
 use Rattle.formats.specs.declared.reader.Place.{Place}
-use Rattle.formats.proofs.Laws.Due.{valueOf, value-abs, around-narrow, from-narrow, Tested, next-line, due-wrong, due-out, due-in, due-small}
+use Rattle.formats.specs.Ranging.{Tested}
+use Rattle.formats.proofs.Laws.Due.{valueOf, value-abs, around-narrow, from-narrow, next-line, due-wrong, due-out, due-in, due-small}
 use Rattle.formats.proofs.Laws.Taking.{wrong-line, right-line}
 use Rattle.formats.proofs.read_listing.read_top.Statement.{statement}
 use Rattle.formats.proofs.read_listing.read_top.Tie as tie

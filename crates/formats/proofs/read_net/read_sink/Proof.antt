@@ -1,7 +1,6 @@
 -- The line of a sink is refused by 2, 3 or 13, or stored: by what the scanner, the ranges and the pin limit tell, in this order. No loop.
 use Prim.Native.Nat.{ℕ, _+_}
 use mathlib.Core.Path.{_≡_, ap, sym, _∙_}
-use mathlib.Core.Logic.{inl, inr}
 use mathlib.Core.List.{List}
 use lib.ListN.{drop, set}
 use denote.Ref.{now}
@@ -17,12 +16,12 @@ use Rattle.quantities.specs.declared.point.Point.{Point}
 use Rattle.tree.specs.Limits.{positionLimit, requiredLimit}
 use Rattle.formats.specs.Line.{lineIn}
 use Rattle.formats.specs.NetText.{sinkKey, sinkRanges}
-use Rattle.formats.specs.Readers.{SinkTurned}
+use Rattle.formats.specs.Ranging.{listed}
 use Rattle.formats.specs.Scanning.{lineAt}
 use Rattle.formats.specs.declared.scan.Numbers.{Numbers}
 use Rattle.formats.specs.declared.scan.Line.the-variants.{Spelt}
 use Rattle.formats.specs.declared.reader.Place.{Place}
-use Rattle.formats.proofs.Laws.Due.{Failed, listed, around-narrow}
+use Rattle.formats.proofs.Laws.Due.{around-narrow, passed, failed}
 use Rattle.formats.proofs.Laws.Taking.{wrong-line, right-line}
 use Rattle.formats.proofs.Laws.Heads.{Taken, taken-small, taken-next, point-within}
 use Rattle.formats.proofs.Laws.SinkLines.{sink-wrong, sink-out, sink-far, sink-near}
@@ -67,44 +66,26 @@ returns c =
 there : (t : tie.After-known-told) → (Spelt (numbers t) (next t .at) ≡ lineAt (here t .at) (lineIn sinkKey 3 (drop (here t .at) (text t)))) × (next t .line ≡ here t .line + 1)
 there t = right-line sinkKey 3 (text t) (here t .at) (here t .line) (numbers t) (next t) (sym (t .before .numbers .given .1) ∙ t .before .before .before .read-line .ensures)
 
-out : (t : tie.After-known-told) → Failed sinkRanges (listed (numbers t)) → SinkTurned (root t) (text t) (here t) 3
-out t f = sink-out (root t) (text t) (here t) (numbers t) (next t .at) (there t .0) f
-
-is-around-requires : tie.Need-is-around-requires
-is-around-requires c κs = search needs
+sink-in-range-requires : tie.Need-sink-in-range-requires
+sink-in-range-requires c κs = search needs
 
 returns-2 : tie.Need-returns-2
-returns-2 c = out (c .before .before .before .before .before) (inl (λ z e. sym (not-true _ (c .if1 .taken)) ∙ c .before .is-around .ensures z e))
+returns-2 c =
+    let t = c .before .before in
+    sink-out (root t) (text t) (here t) (numbers t) (next t .at) (there t .0) (failed (c .before .sink-in-range .result) sinkRanges (listed (numbers t)) (c .before .sink-in-range .ensures) (not-true _ (c .if1 .taken)))
 
-is-around-requires-2 : tie.Need-is-around-requires-2
-is-around-requires-2 c κs = search needs
+-- the line where its numbers are in range
+abbrev line : tie.After-arrival → tie.After-known-told
+line c = c .before .before .before .before .before
 
-returns-3 : tie.Need-returns-3
-returns-3 c = out (c .before .before .before .before .before .before .before) (inr (inl (λ z e. sym (not-true _ (c .if2 .taken)) ∙ c .before .is-around2 .ensures z e)))
-
-is-around-requires-3 : tie.Need-is-around-requires-3
-is-around-requires-3 c κs = search needs
-
-returns-4 : tie.Need-returns-4
-returns-4 c = out (c .before .before .before .before .before .before .before .before .before) (inr (inr (inl (λ z e. sym (not-true _ (c .if3 .taken)) ∙ c .before .is-around3 .ensures z e))))
-
--- the numbers of the line, where they are all in range
-abbrev line : tie.Else3 → tie.After-known-told
-line c = c .before .before .before .before .before .before .before .before .before
-
-taken : (c : tie.Else3) → Taken sinkKey sinkRanges (text (line c)) (here (line c) .at) (numbers (line c)) (next (line c) .at)
+taken : (c : tie.After-arrival) → Taken sinkKey sinkRanges (text (line c)) (here (line c) .at) (numbers (line c)) (next (line c) .at)
 taken c =
+    let e = c .before .before .before in
     record {
       few = omega arith;
       spelt = there (line c) .0;
       narrow = (around-narrow positionLimit (omega arith), (around-narrow positionLimit (omega arith), (around-narrow requiredLimit (omega arith), tt)));
-      passed = (
-        (λ z e. sym (not-false _ (c .before .before .before .before .if1 .left)) ∙ c .before .before .before .before .before .is-around .ensures z e),
-        (
-          (λ z e. sym (not-false _ (c .before .before .if2 .left)) ∙ c .before .before .before .is-around2 .ensures z e),
-          ((λ z e. sym (not-false _ (c .if3 .left)) ∙ c .before .is-around3 .ensures z e), tt),
-        ),
-      );
+      passed = passed (e .before .sink-in-range .result) sinkRanges (listed (numbers (line c))) (e .before .sink-in-range .ensures) (not-false _ (e .if1 .left));
     }
 
 value-requires : tie.Need-value-requires
@@ -120,20 +101,21 @@ is-far-requires c κs =
     let w = c .value2 in
     (start (line e) .pre .2, point-within (taken e) _ (toZ-ofZ (fit (v .result) (v .ok)) ∙ v .ensures) (toZ-ofZ (fit (w .result) (w .ok)) ∙ w .ensures))
 
-returns-5 : tie.Need-returns-5
-returns-5 c =
+returns-3 : tie.Need-returns-3
+returns-3 c =
     let e = c .before .before .before .before in
+    let n = line e in
     let v = c .before .before .before .value in
     let w = c .before .before .value2 in
-    sink-far (root (line e)) (text (line e)) (here (line e)) (numbers (line e)) (next (line e) .at) (taken e) _ (toZ-ofZ (fit (v .result) (v .ok)) ∙ v .ensures) (toZ-ofZ (fit (w .result) (w .ok)) ∙ w .ensures) (sym (c .if4 .taken) ∙ c .before .is-far .ensures)
+    sink-far (root n) (text n) (here n) (numbers n) (next n .at) (taken e) _ (toZ-ofZ (fit (v .result) (v .ok)) ∙ v .ensures) (toZ-ofZ (fit (w .result) (w .ok)) ∙ w .ensures) (sym (c .if2 .taken) ∙ c .before .is-far .ensures)
 
--- the third number of the line and those before it are in range, where the pin is near enough
-abbrev passed : tie.After-struct-told2 → tie.Else3
-passed c = c .before .before .before .before .before .before
+-- the line where its pin is near enough besides
+abbrev near : tie.After-struct-told2 → tie.After-arrival
+near c = c .before .before .before .before .before .before
 
 mul-x : tie.Need-mul-x
 mul-x c =
-    let p = start (line (passed c)) in
+    let p = start (line (near c)) in
     let g = p .good .1 .1 .1 .1 .0 in
     let b = p .pre .3 in
     search needs
@@ -148,7 +130,7 @@ slice-set-from-y : tie.Need-slice-set-from-y
 slice-set-from-y c = search needs
 
 value-requires-3 : tie.Need-value-requires-3
-value-requires-3 c κs = taken-small (taken (passed c)) .1 .1 .0
+value-requires-3 c κs = taken-small (taken (near c)) .1 .1 .0
 
 mul-t25 : tie.Need-mul-t25
 mul-t25 c = mul-x (c .before)
@@ -165,10 +147,10 @@ same-length-2 c = search needs
 same-length-3 : tie.Need-same-length-3
 same-length-3 c = search needs
 
-returns-6 : tie.Need-returns-6
-returns-6 c =
+returns-4 : tie.Need-returns-4
+returns-4 c =
     let d = c .before in
-    let e = passed d in
+    let e = near d in
     let n = line e in
     let p = start n in
     let v = d .before .before .before .before .before .value in
@@ -180,7 +162,7 @@ returns-6 c =
       x = _;
       y = _;
       a = _;
-      reads = λ l cont. sink-near (root n) (text n) (here n) (numbers n) (next n .at) (taken e) _ (x ∙ v .ensures) (y ∙ w .ensures) (sym (d .before .before .if4 .left) ∙ d .before .before .before .is-far .ensures) l cont;
+      reads = λ l cont. sink-near (root n) (text n) (here n) (numbers n) (next n .at) (taken e) _ (x ∙ v .ensures) (y ∙ w .ensures) (sym (d .before .before .if2 .left) ∙ d .before .before .before .is-far .ensures) l cont;
       within = taken-next (taken e) (p .pre .0) .1;
       line-is = there n .1;
       xs-is = ap (set (now (p .args .xs)) (p .args .s)) (ap (λ (z : ℤ). toZ w64 (ofZ w64 z)) x ∙ x ∙ v .ensures);
@@ -197,16 +179,12 @@ read-sink-spec =
     enum-known-numbers
     enum-told
     returns
-    is-around-requires
+    sink-in-range-requires
     returns-2
-    is-around-requires-2
-    returns-3
-    is-around-requires-3
-    returns-4
     value-requires
     value-requires-2
     is-far-requires
-    returns-5
+    returns-3
     mul-x
     slice-set-from-x
     mul-y
@@ -217,4 +195,4 @@ read-sink-spec =
     same-length
     same-length-2
     same-length-3
-    returns-6)
+    returns-4)
