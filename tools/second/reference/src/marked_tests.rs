@@ -149,15 +149,71 @@ fn refused_nets() {
         (3, 1, 5)
     );
     assert_eq!(
-        plan(&a("-2000000000000").replace("=10,0", "=100000,0"))
-            .0
-            .number,
-        0
-    );
-    assert_eq!(
         refused_plan(&a("0").replace("=10,0", "=100001,0")),
         (3, 1, 6)
     );
+}
+
+/// A net of one sink, its root and its sink so spelt.
+fn one(root: &str, sink: &str) -> String {
+    format!("root={root}\nbranch=20\nwire=2\nneed=-2000000000000\nsinks=1\nsink={sink},0\n")
+}
+
+/// What plan says, and judge of the plan's listing or of none: the same.
+fn told(net: &str) -> (u8, u8, usize) {
+    let (answer, listing) = plan(net);
+    let judged = judge(net, &listing);
+    let told = (judged.number, judged.text, judged.line);
+    assert_eq!((answer.number, answer.text, answer.line), told);
+    told
+}
+
+/// Request 2: X 100000 passes only with a root near enough.
+#[test]
+fn the_last_position() {
+    assert_eq!(told(&a("0").replace("=10,0", "=100000,0")), (13, 1, 6));
+    assert_eq!(told(&one("0,0", "100000,0")), (13, 1, 6));
+    assert_eq!(told(&one("59999,0", "100000,0")), (13, 1, 6));
+    for (root, sink) in [
+        ("60000,0", "100000,0"),
+        ("-60000,0", "-100000,0"),
+        ("7,60000", "7,100000"),
+        ("80000,-80000", "100000,-100000"),
+        ("100000,0", "100000,0"),
+    ] {
+        assert_eq!(told(&one(root, sink)), (0, 0, 0));
+    }
+    assert_eq!(told(&one("0,0", "100001,0")), (3, 1, 6));
+    assert_eq!(told(&one("60001,0", "100001,0")), (3, 1, 6));
+}
+
+#[test]
+fn pins_at_the_limit() {
+    let near = ["40000,0", "0,-40000", "20000,20000", "-39999,1"];
+    for sink in near {
+        assert_eq!(told(&one("0,0", sink)), (0, 0, 0));
+    }
+    let far = ["40001,0", "0,-40001", "20000,20001", "-40000,1", "1,40000"];
+    for sink in far {
+        assert_eq!(told(&one("0,0", sink)), (13, 1, 6));
+    }
+}
+
+/// 13 follows 2 and 3 on its line, and goes before later lines, 4, 5 and 6.
+#[test]
+fn a_far_pin_and_another_fault() {
+    let net = a("1").replace("=4,6,60", "=40000,1,60");
+    let with = |from: &str, to: &str| told(&net.replace(from, to));
+    assert_eq!(told(&net), (13, 1, 7));
+    assert_eq!(with(",1,60", ",1,-0"), (2, 1, 7));
+    assert_eq!(with(",1,60", ",1,1000000000001"), (3, 1, 7));
+    assert_eq!(with("=10,0,", "=10,-0,"), (2, 1, 6));
+    assert_eq!(with("=10,0,", "=50000,0,"), (13, 1, 6));
+    assert_eq!(with("=10,10,70", "=x"), (13, 1, 7));
+    assert_eq!(with(",70\n", ",70\nx"), (13, 1, 7));
+    assert_eq!(with(",70\n", &"x".repeat(20_480)), (1, 1, 0));
+    assert_eq!(refusal(slow::plan(net.as_bytes(), &mut [])), (13, 1, 7));
+    assert_eq!(refusal(plain::plan(net.as_bytes(), &mut [])), (13, 1, 7));
 }
 
 #[test]

@@ -6,6 +6,8 @@ use crate::tree::Point;
 
 pub const LENGTH: usize = 20_480;
 pub const COORDINATE: i64 = 100_000;
+/// How far from the root a sink may be.
+pub const PIN_LIMIT: i64 = 40_000;
 pub const BRANCH: (i64, i64) = (1, 1_000_000);
 pub const WIRE: (i64, i64) = (1, 10_000);
 pub const NEED: (i64, i64) = (-2_000_000_000_000, 2_000_000_000_000);
@@ -40,7 +42,7 @@ impl Net {
         let count = read_one(&mut lines, "sinks=", SINKS)?;
         let mut sinks = Vec::new();
         for _ in 0..count {
-            sinks.push(read_sink(&mut lines)?);
+            sinks.push(read_sink(&mut lines, root)?);
         }
         lines.finish()?;
         Ok(Net {
@@ -91,14 +93,18 @@ fn read_one(lines: &mut Lines, key: &str, range: (i64, i64)) -> Result<i64, Refu
     Ok(value)
 }
 
-fn read_sink(lines: &mut Lines) -> Result<Sink, Refusal> {
+/// 02, request 2: "A sink more than 40,000 micrometres from the root is
+/// refused in every call that reads a net." It is turned away by "13, text 1,
+/// the sink's line, right after 3 on that line".
+fn read_sink(lines: &mut Lines, root: Point) -> Result<Sink, Refusal> {
     let numbers = lines.due("sink=", 3)?;
     let x = lines.value(numbers[0], -COORDINATE, COORDINATE)?;
     let y = lines.value(numbers[1], -COORDINATE, COORDINATE)?;
     let arrival = lines.value(numbers[2], ARRIVAL.0, ARRIVAL.1)?;
+    let at = Point::new(x, y);
+    if root.distance(at) > PIN_LIMIT as i128 {
+        return Err(lines.refuse(13));
+    }
     lines.step();
-    Ok(Sink {
-        at: Point::new(x, y),
-        arrival,
-    })
+    Ok(Sink { at, arrival })
 }

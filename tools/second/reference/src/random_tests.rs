@@ -1,5 +1,6 @@
 //! The two references against each other on small random nets.
 
+use crate::answer::{Answer, Refusal};
 use crate::kraft;
 use crate::net::{Net, Sink};
 use crate::tree::Point;
@@ -16,13 +17,13 @@ impl Random {
     }
 }
 
-fn random_net(r: &mut Random, spread: i64) -> Net {
-    let point = |r: &mut Random| Point::new(r.below(2 * spread + 1) - spread, r.below(spread) - 3);
+/// A net whose pins are drawn about its root.
+fn random_net(r: &mut Random, spread: i64, pin: impl Fn(&mut Random, Point) -> Point) -> Net {
     let n = 1 + r.below(14);
-    let root = point(r);
+    let root = Point::new(r.below(2 * spread + 1) - spread, r.below(spread) - 3);
     let sinks = (0..n)
         .map(|_| Sink {
-            at: point(r),
+            at: pin(r, root),
             arrival: r.below(20 * spread) - 5 * spread,
         })
         .collect();
@@ -36,27 +37,88 @@ fn random_net(r: &mut Random, spread: i64) -> Net {
     }
 }
 
+/// At most so far from the root, and in the range.
+fn near_pin(r: &mut Random, root: Point, reach: i64) -> Point {
+    let x = r.below(2 * reach + 1) - reach;
+    let rest = reach - x.abs();
+    let y = r.below(2 * rest + 1) - rest;
+    Point {
+        x: (root.x + x as i128).clamp(-100_000, 100_000),
+        y: (root.y + y as i128).clamp(-100_000, 100_000),
+    }
+}
+
+/// From the root inward, up to one beyond the limit.
+fn pin_at_limit(r: &mut Random, root: Point) -> Point {
+    let distance = 39_994 + r.below(8);
+    let x = match r.below(4) {
+        0 => 0,
+        1 => distance,
+        _ => r.below(distance + 1),
+    };
+    let inward = |from: i128, by: i64| from - by as i128 * if from > 0 { 1 } else { -1 };
+    Point {
+        x: inward(root.x, x),
+        y: inward(root.y, distance - x),
+    }
+}
+
+/// Answers of plan and of judge on its listing, the same from both references.
+fn agreed(text: &[u8]) -> (Answer, Answer) {
+    let (mut one, mut two) = (vec![200; 2000], vec![200; 2000]);
+    let planned = slow::plan(text, &mut one);
+    assert_eq!(planned, plain::plan(text, &mut two));
+    assert_eq!(one, two);
+    let listing = &one[..planned.last as usize];
+    let judged = slow::judge(text, listing);
+    assert_eq!(judged, plain::judge(text, listing));
+    (planned, judged)
+}
+
+/// The net is accepted and its plan is the best.
+fn check_plan(net: &Net) {
+    let text = net.text();
+    assert_eq!(Net::read(&text).as_ref(), Ok(net));
+    let (planned, judged) = agreed(&text);
+    assert_eq!(planned.number, 0);
+    assert_eq!(planned.slack as i128, kraft::maximum(net));
+    assert_eq!(
+        (judged.slack, judged.wire, judged.last),
+        (planned.slack, planned.wire, planned.slack)
+    );
+}
+
 #[test]
 fn slow_and_plain_agree() {
     let mut r = Random(88172645463325252);
     for round in 0..600 {
         let spread = [2, 6, 30, 1000, 99_000][round % 5];
-        let net = random_net(&mut r, spread);
-        let text = net.text();
-        assert_eq!(Net::read(&text).as_ref(), Ok(&net));
-        let (mut one, mut two) = (vec![200; 2000], vec![200; 2000]);
-        let answer = slow::plan(&text, &mut one);
-        assert_eq!(answer, plain::plan(&text, &mut two));
-        assert_eq!(one, two);
-        assert_eq!(answer.slack as i128, kraft::maximum(&net));
-        let listing = &one[..answer.last as usize];
-        let judged = slow::judge(&text, listing);
-        assert_eq!(
-            (judged.slack, judged.wire, judged.last),
-            (answer.slack, answer.wire, answer.slack)
-        );
-        assert_eq!(judged, plain::judge(&text, listing));
+        let reach = 40_000.min(2 * spread);
+        let net = random_net(&mut r, spread, |r, root| near_pin(r, root, reach));
+        check_plan(&net);
     }
+}
+
+#[test]
+fn the_lowest_far_pin_is_told() {
+    let mut r = Random(40_000);
+    let mut refused = 0;
+    for _ in 0..600 {
+        let net = random_net(&mut r, 99_000, pin_at_limit);
+        let away = |s: &Sink| (s.at.x - net.root.x).abs() + (s.at.y - net.root.y).abs();
+        let Some(i) = net.sinks.iter().position(|s| away(s) > 40_000) else {
+            check_plan(&net);
+            continue;
+        };
+        refused += 1;
+        let far = Answer::refused(Refusal {
+            number: 13,
+            text: 1,
+            line: 6 + i,
+        });
+        assert_eq!(agreed(&net.text()), (far, far));
+    }
+    assert!((200..500).contains(&refused), "{refused} nets are refused");
 }
 
 #[test]

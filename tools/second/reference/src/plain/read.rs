@@ -1,5 +1,6 @@
 //! Both texts, read in one pass by a cursor.
 
+use super::tree::distance;
 use crate::answer::Refusal;
 
 pub type Point = (i64, i64);
@@ -25,6 +26,9 @@ pub struct Listing {
     pub parent: Vec<usize>,
     pub points: Vec<Point>,
 }
+
+/// A sink that is farther from the root is the global planner's.
+const FARTHEST: i64 = 40_000;
 
 /// Any value beyond every range, for numbers too long to hold.
 const HUGE: i64 = i64::MAX / 16;
@@ -134,10 +138,9 @@ pub fn net(bytes: &[u8]) -> Read<Net> {
     points.push(root);
     arrivals.push(0);
     for _ in 0..n {
-        c.key(b"sink=")?;
-        let (x, y, a) = (c.number(b',')?, c.number(b',')?, c.number(b'\n')?);
-        points.push((c.coordinate(x)?, c.coordinate(y)?));
-        arrivals.push(c.within(a, -1_000_000_000_000, 1_000_000_000_000)?);
+        let (at, arrival) = sink(&mut c, root)?;
+        points.push(at);
+        arrivals.push(arrival);
         c.line += 1;
     }
     c.end()?;
@@ -148,6 +151,17 @@ pub fn net(bytes: &[u8]) -> Read<Net> {
         points,
         arrivals,
     })
+}
+
+fn sink(c: &mut Cursor, root: Point) -> Read<(Point, i64)> {
+    c.key(b"sink=")?;
+    let (x, y, a) = (c.number(b',')?, c.number(b',')?, c.number(b'\n')?);
+    let at = (c.coordinate(x)?, c.coordinate(y)?);
+    let arrival = c.within(a, -1_000_000_000_000, 1_000_000_000_000)?;
+    if distance(root, at) > FARTHEST {
+        return c.fail(13);
+    }
+    Ok((at, arrival))
 }
 
 pub fn listing(bytes: &[u8], net: &Net) -> Read<Listing> {
