@@ -1,6 +1,7 @@
 //! Ways to spoil a text.
 
 use crate::random::Random;
+use second_reference::net::PIN_LIMIT;
 use std::ops::Range;
 
 /// Where the numbers of a text stand.
@@ -48,13 +49,29 @@ pub fn odd_spellings(value: &[u8]) -> Vec<Vec<u8>> {
 
 /// Numbers equal to this one modulo the sizes of machine words.
 pub fn congruent(value: &[u8]) -> Vec<Vec<u8>> {
-    let value = std::str::from_utf8(value)
-        .ok()
-        .and_then(|v| v.parse::<i128>().ok())
-        .unwrap_or(1);
+    let value = value_of(value);
     [8, 16, 31, 32, 53, 63, 64]
         .iter()
         .flat_map(|&bits| [value + (1i128 << bits), value - (1i128 << bits)])
+        .map(|v| v.to_string().into_bytes())
+        .collect()
+}
+
+fn value_of(number: &[u8]) -> i128 {
+    std::str::from_utf8(number)
+        .ok()
+        .and_then(|v| v.parse().ok())
+        .unwrap_or(1)
+}
+
+/// Numbers about the pin limit from this one: a pin or the root that moves so
+/// may stay near enough or not.
+pub fn across(value: &[u8]) -> Vec<Vec<u8>> {
+    let value = value_of(value);
+    let limit = PIN_LIMIT as i128;
+    [limit - 1, limit, limit + 1]
+        .iter()
+        .flat_map(|by| [value + by, value - by])
         .map(|v| v.to_string().into_bytes())
         .collect()
 }
@@ -110,10 +127,11 @@ fn number_damaged(r: &mut Random, text: &[u8]) -> Vec<u8> {
     }
     let at = all[r.index(all.len())].clone();
     let value = &text[at.clone()];
-    let choices = match r.index(4) {
+    let choices = match r.index(5) {
         0 => odd_spellings(value),
         1 => congruent(value),
         2 => limits(),
+        3 => across(value),
         _ => return replaced(text, at, r.between(-3, 12).to_string().as_bytes()),
     };
     replaced(text, at, &choices[r.index(choices.len())])
@@ -140,14 +158,15 @@ fn lines_damaged(r: &mut Random, text: &[u8]) -> Vec<u8> {
     lines.concat()
 }
 
-/// Damages of the whole text that are due for every text.
+/// Damages of the whole text that are due for every text; it is empty where a
+/// good net was refused.
 pub fn whole(text: &[u8]) -> Vec<Vec<u8>> {
     let crlf = String::from_utf8_lossy(text)
         .replace('\n', "\r\n")
         .into_bytes();
     let mut all = vec![
         crlf,
-        text[..text.len() - 1].to_vec(),
+        text[..text.len().saturating_sub(1)].to_vec(),
         Vec::new(),
         b"\n".to_vec(),
     ];
@@ -174,9 +193,12 @@ pub fn whole(text: &[u8]) -> Vec<Vec<u8>> {
 pub fn of_length(r: &mut Random, text: &[u8], length: usize) -> Vec<Vec<u8>> {
     let missing = length - text.len();
     let behind = [text, &vec![r.pick(b"\n 0x"); missing]].concat();
-    let all = numbers(text);
-    let at = all[r.index(all.len())].clone();
-    let digits = replaced(text, at.end..at.end, &vec![b'7'; missing]);
+    let mut ends: Vec<usize> = numbers(text).iter().map(|at| at.end).collect();
+    if ends.is_empty() {
+        ends.push(0);
+    }
+    let end = r.pick(&ends);
+    let digits = replaced(text, end..end, &vec![b'7'; missing]);
     let unended = [text, &vec![b'7'; missing]].concat();
     vec![behind, digits, unended]
 }

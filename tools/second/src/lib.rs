@@ -5,6 +5,7 @@ pub mod kinds;
 pub mod library;
 pub mod near;
 pub mod nets;
+pub mod pins;
 pub mod programs;
 pub mod random;
 pub mod session;

@@ -1,8 +1,9 @@
 //! Seeded nets with many tied edges, so that nearness decides.
 
-use crate::nets::{of_slacks, point, shuffle};
+use crate::nets::{of_slacks, shuffle};
+use crate::pins::{self, point};
 use crate::random::Random;
-use second_reference::net::{Net, COORDINATE};
+use second_reference::net::{Net, COORDINATE, PIN_LIMIT};
 use second_reference::tree::Point;
 
 /// A net of these points and own slacks, about the root.
@@ -47,9 +48,11 @@ fn zip(points: Vec<Point>, own: Vec<i64>) -> Vec<(Point, i64)> {
 
 /// Pins on few spots, the root's at times among them.
 pub fn few_spots(r: &mut Random, n: usize) -> Net {
-    let spread = r.pick(&[1, 5, 1000, COORDINATE]);
-    let root = point(r, spread);
-    let mut spots: Vec<Point> = (0..r.between(1, 6)).map(|_| point(r, spread)).collect();
+    let reach = r.pick(&[2, 10, 2000, PIN_LIMIT]);
+    let root = pins::root(r, reach);
+    let mut spots: Vec<Point> = (0..r.between(1, 6))
+        .map(|_| pins::about(r, root, reach))
+        .collect();
     if r.once_in(2) {
         spots[0] = root;
     }
@@ -73,11 +76,11 @@ pub fn deep(r: &mut Random, n: usize) -> Net {
     net(r, root, branch, zip(vec![spot; n], own))
 }
 
-/// Points anywhere, so that one of two tied sinks is nearer.
+/// Points anywhere within reach, so that one of two tied sinks is nearer.
 pub fn spread_out(r: &mut Random, n: usize) -> Net {
-    let spread = r.pick(&[4, 300, COORDINATE]);
-    let root = point(r, spread);
-    let points = (0..n).map(|_| point(r, spread)).collect();
+    let reach = r.pick(&[8, 600, PIN_LIMIT]);
+    let root = pins::root(r, reach);
+    let points = (0..n).map(|_| pins::about(r, root, reach)).collect();
     with_ties(r, root, points)
 }
 
@@ -100,29 +103,35 @@ pub fn as_near(r: &mut Random, n: usize) -> Net {
 
 /// x,y from the root, in one of the four directions.
 fn turned(r: &mut Random, root: Point, x: i64, y: i64) -> Point {
-    let (x, y) = r.pick(&[(x, y), (-y, x), (-x, -y), (y, -x)]);
-    Point::new(root.x as i64 + x, root.y as i64 + y)
+    let (x, y) = r.pick(&pins::turns(x, y));
+    pins::offset(root, x, y)
 }
 
 /// How many sinks can be on the four sides of the root, each less than half as
-/// far out as the one before on its side.
-const MOST_ON_SIDES: usize = 64;
+/// far out as the one before on its side. The cluster is the first of all.
+const MOST_ON_SIDES: usize = 59;
 
 fn on_side(root: Point, i: usize) -> Point {
-    let out = (1 << (16 - i / 4)) - 1;
-    let (x, y) = [(out, 0), (0, out), (-out, 0), (0, -out)][i % 4];
-    Point::new(root.x as i64 + x, root.y as i64 + y)
+    let place = i + 1;
+    let out = (1 << (15 - place / 4)) - 1;
+    let (x, y) = pins::turns(out, 0)[place % 4];
+    pins::offset(root, x, y)
 }
 
-/// An urgent sink, a cluster in a far corner, then sinks on the root's sides.
-/// To each of these the root is nearer than any tied sink, so an edge above a
-/// branch point is split, and the whole cluster gets one deeper.
+/// So wide a cluster out to the limit, or one spot at it.
+fn in_cluster(r: &mut Random, root: Point, width: i64) -> Point {
+    let (x, y) = (r.between(0, width), r.between(-width, width));
+    pins::offset(root, PIN_LIMIT - width - x, y)
+}
+
+/// An urgent sink, a cluster far out, then sinks on the root's sides. To each
+/// of these the root is nearer than any tied sink, so an edge above a branch
+/// point is split, and the whole cluster gets one deeper.
 fn around_root(r: &mut Random, n: usize, on_sides: usize, cluster: i64) -> Net {
-    let root = point(r, 500);
+    let root = point(r, COORDINATE - PIN_LIMIT);
     let branch = r.between(1, 1000);
-    let far = COORDINATE - cluster;
     let mut points: Vec<Point> = (on_sides..n)
-        .map(|_| Point::new(r.between(far, COORDINATE), r.between(far, COORDINATE)))
+        .map(|_| in_cluster(r, root, cluster))
         .collect();
     points.extend((0..on_sides).map(|i| on_side(root, i)));
     let spare = branch * (n as i64 + 1);
@@ -141,7 +150,7 @@ pub fn near_root(r: &mut Random, n: usize) -> Net {
     around_root(r, n, on_sides, cluster)
 }
 
-/// As many as can be on the sides, and the rest spread over the corner.
+/// As many as can be on the sides, and the rest spread over the cluster.
 pub fn tree_near_root(r: &mut Random, n: usize) -> Net {
     around_root(r, n, MOST_ON_SIDES.min(n / 2), 1000)
 }

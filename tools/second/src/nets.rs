@@ -1,30 +1,28 @@
-//! Seeded nets of every character.
+//! Seeded nets of every character, all pins within the limit.
 
 use crate::near;
+use crate::pins::{self, point};
 use crate::random::Random;
-use second_reference::net::{Net, Sink, ARRIVAL, BRANCH, COORDINATE, NEED, WIRE};
+use second_reference::net::{Net, Sink, ARRIVAL, BRANCH, COORDINATE, NEED, PIN_LIMIT, SINKS, WIRE};
 use second_reference::tree::Point;
 
 /// A need that every net reaches.
 pub const LOW_NEED: i64 = NEED.0;
 
-pub fn point(r: &mut Random, spread: i64) -> Point {
-    Point::new(r.between(-spread, spread), r.between(-spread, spread))
-}
-
 /// A net as chips have them: pins within a few millimetres, times to match.
 pub fn common(r: &mut Random, n: usize) -> Net {
-    let spread = r.pick(&[50, 2_000, 20_000, COORDINATE]);
+    let reach = r.pick(&[100, 4_000, 20_000, PIN_LIMIT]);
     let wire = r.between(1, 400);
-    let late = 2 * spread * wire;
+    let late = reach * wire;
+    let root = pins::root(r, reach);
     let sinks = (0..n)
         .map(|_| Sink {
-            at: point(r, spread),
+            at: pins::about(r, root, reach),
             arrival: r.between(-late, 3 * late),
         })
         .collect();
     Net {
-        root: point(r, spread),
+        root,
         branch: r.between(1, 50_000),
         wire,
         need: LOW_NEED,
@@ -66,13 +64,26 @@ pub fn of_slacks(root: Point, branch: i64, wire: i64, sinks: Vec<(Point, i64)>) 
 /// Pins on a few spots, the root's own among them.
 pub fn coincident(r: &mut Random, n: usize) -> Net {
     let mut net = common(r, n);
-    let spots: Vec<Point> = [net.root, point(r, 9), point(r, COORDINATE)].to_vec();
+    let near = pins::about(r, net.root, 9);
+    let far = pins::about(r, net.root, PIN_LIMIT);
     let same_time = r.once_in(2);
     for sink in &mut net.sinks {
-        sink.at = r.pick(&spots);
+        sink.at = r.pick(&[net.root, near, far]);
         if same_time {
             sink.arrival = r.between(-1, 1);
         }
+    }
+    net
+}
+
+/// All pins in one corner of the range.
+pub fn cornered(r: &mut Random, n: usize) -> Net {
+    let mut net = common(r, n);
+    let ends = [-COORDINATE, COORDINATE];
+    let corner = Point::new(r.pick(&ends), r.pick(&ends));
+    net.root = pins::about(r, corner, 100);
+    for sink in &mut net.sinks {
+        sink.at = pins::about(r, net.root, 100);
     }
     net
 }
@@ -85,7 +96,7 @@ pub fn extreme(r: &mut Random, n: usize) -> Net {
     );
     let branch = end(r, BRANCH.0, BRANCH.1);
     let wire = end(r, WIRE.0, WIRE.1);
-    let sinks = (0..n).map(|_| extreme_sink(r)).collect();
+    let sinks = (0..n).map(|_| extreme_sink(r, root)).collect();
     Net {
         root,
         branch,
@@ -95,22 +106,46 @@ pub fn extreme(r: &mut Random, n: usize) -> Net {
     }
 }
 
-fn extreme_sink(r: &mut Random) -> Sink {
-    let x = end(r, -COORDINATE, COORDINATE);
-    let y = end(r, -COORDINATE, COORDINATE);
+/// What x leaves of the limit, y may use.
+fn extreme_sink(r: &mut Random, root: Point) -> Sink {
+    let reach = end(r, 0, PIN_LIMIT);
+    let x = end_about(r, root.x as i64, reach);
+    let left = PIN_LIMIT - (x - root.x as i64).abs();
+    let y = end_about(r, root.y as i64, left);
     Sink {
         at: Point::new(x, y),
         arrival: end(r, ARRIVAL.0, ARRIVAL.1),
     }
 }
 
+fn end_about(r: &mut Random, from: i64, reach: i64) -> i64 {
+    let (low, high) = (from - reach, from + reach);
+    end(r, low.max(-COORDINATE), high.min(COORDINATE))
+}
+
 fn end(r: &mut Random, low: i64, high: i64) -> i64 {
     match r.index(9) {
         0..=2 => low,
         3..=5 => high,
-        6 => low + 1,
-        7 => high - 1,
+        6 => high.min(low + 1),
+        7 => low.max(high - 1),
         _ => r.between(low, high),
+    }
+}
+
+/// The longest text: every number in its longest spelling.
+pub fn longest() -> Net {
+    let corner = Point::new(-COORDINATE, -COORDINATE);
+    let sink = Sink {
+        at: corner,
+        arrival: ARRIVAL.0,
+    };
+    Net {
+        root: corner,
+        branch: BRANCH.1,
+        wire: WIRE.1,
+        need: NEED.0,
+        sinks: vec![sink; SINKS.1 as usize],
     }
 }
 
@@ -167,12 +202,25 @@ pub fn shuffle<T>(r: &mut Random, list: &mut [T]) {
 }
 
 pub fn any(r: &mut Random, n: usize) -> Net {
-    match r.index(7) {
+    match r.index(8) {
         0 => common(r, n),
         1 => tied(r, n),
         2 => coincident(r, n),
         3 => extreme(r, n),
         4 => path_like(r, n),
+        5 => cornered(r, n),
         _ => near::any(r, n),
     }
+}
+
+/// Moves one pin beyond the limit, and tells its line.
+pub fn with_far_pin(r: &mut Random, mut net: Net) -> (Net, usize) {
+    let i = r.index(net.sinks.len());
+    net.sinks[i].at = pins::beyond(r, net.root);
+    (net, line_of(i))
+}
+
+/// The line of a sink, counted from 0.
+pub fn line_of(sink: usize) -> usize {
+    sink + 6
 }

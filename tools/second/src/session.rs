@@ -4,7 +4,7 @@
 use crate::library;
 use second_reference::answer::Answer;
 use second_reference::listing::Listing;
-use second_reference::net::Net;
+use second_reference::net::{Net, Sink, COORDINATE, PIN_LIMIT};
 use second_reference::{kraft, plain, slow};
 use std::collections::BTreeMap;
 
@@ -12,6 +12,7 @@ use std::collections::BTreeMap;
 const GUARD: usize = 64;
 /// Enough to see what is wrong without flooding the screen.
 const MOST_PRINTED: usize = 20;
+const LAST_NUMBER: u8 = 13;
 
 #[derive(Default)]
 pub struct Session {
@@ -19,9 +20,12 @@ pub struct Session {
     seed: u64,
     pub counts: BTreeMap<&'static str, u64>,
     /// Answers by the refusal's number: of plan, of judge.
-    pub numbers: [[u64; 13]; 2],
+    pub numbers: [[u64; LAST_NUMBER as usize + 1]; 2],
     /// Plans in which an edge above a branch point was split.
     pub split_above_branch_point: u64,
+    /// Plans of nets with a pin just at the limit, and at an end of the range.
+    pub pin_at_limit: u64,
+    pub pin_at_end: u64,
     pub disagreements: usize,
 }
 
@@ -53,13 +57,14 @@ impl Session {
         self.count();
         let mut out = fill(length + GUARD);
         let answer = library::plan(net, &mut out[..length]);
-        self.numbers[0][answer.number.min(12) as usize] += 1;
+        self.numbers[0][answer.number.min(LAST_NUMBER) as usize] += 1;
         let mut other = fill(length + GUARD);
         let expected = plain::plan(net, &mut other[..length]);
         self.compare_plan("plain", net, (answer, &out), (expected, &other));
         let read = Net::read(net);
         if let (Ok(read), 0) = (&read, expected.number) {
             self.count_split(read, &other[..expected.last as usize]);
+            self.count_pins(read);
         }
         match read {
             Ok(read) if read.sinks.len() > slow::MOST_SINKS => {
@@ -82,6 +87,13 @@ impl Session {
         let tree = Listing::read(listing, net).expect("a plan's listing").tree;
         let split = (n + 1..2 * n).any(|v| tree.parent[v] > v);
         self.split_above_branch_point += u64::from(split);
+    }
+
+    fn count_pins(&mut self, net: &Net) {
+        let at_limit = |s: &Sink| net.root.distance(s.at) == PIN_LIMIT as i128;
+        let at_end = |s: &Sink| s.at.x.abs().max(s.at.y.abs()) == COORDINATE as i128;
+        self.pin_at_limit += u64::from(net.sinks.iter().any(at_limit));
+        self.pin_at_end += u64::from(net.sinks.iter().any(at_end));
     }
 
     /// What the definitions alone say of a large net's plan.
@@ -127,7 +139,7 @@ impl Session {
     pub fn judge(&mut self, net: &[u8], listing: &[u8]) -> Answer {
         self.count();
         let answer = library::judge(net, listing);
-        self.numbers[1][answer.number.min(12) as usize] += 1;
+        self.numbers[1][answer.number.min(LAST_NUMBER) as usize] += 1;
         for (who, expected) in [
             ("slow", slow::judge(net, listing)),
             ("plain", plain::judge(net, listing)),

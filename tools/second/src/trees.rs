@@ -1,6 +1,7 @@
 //! Legal trees: random ones, and all of them for a few sinks.
 
-use crate::nets::{point, shuffle};
+use crate::nets::shuffle;
+use crate::pins;
 use crate::random::Random;
 use second_reference::net::Net;
 use second_reference::tree::{Point, Tree};
@@ -28,19 +29,25 @@ pub fn random_parents(r: &mut Random, n: usize) -> Vec<usize> {
     parent
 }
 
-/// The tree of these parents over the net, branch points within the spread.
-pub fn placed(r: &mut Random, net: &Net, parent: Vec<usize>, spread: i64) -> Tree {
-    let mut tree = at_root(net, parent);
-    for at in &mut tree.point[net.sinks.len() + 1..] {
-        *at = point(r, spread);
-    }
-    tree
+/// The tree of these parents over the net, branch points in the range and at
+/// most so far from the root.
+pub fn placed(r: &mut Random, net: &Net, parent: Vec<usize>, reach: i64) -> Tree {
+    over(net, parent, || pins::about(r, net.root, reach))
+}
+
+/// Branch points beyond the range too.
+pub fn placed_beyond(r: &mut Random, net: &Net, parent: Vec<usize>, spread: i64) -> Tree {
+    over(net, parent, || pins::point(r, spread))
 }
 
 pub fn at_root(net: &Net, parent: Vec<usize>) -> Tree {
+    over(net, parent, || net.root)
+}
+
+fn over(net: &Net, parent: Vec<usize>, place: impl FnMut() -> Point) -> Tree {
     let mut point: Vec<Point> = vec![net.root];
     point.extend(net.sinks.iter().map(|s| s.at));
-    point.resize(parent.len(), net.root);
+    point.resize_with(parent.len(), place);
     Tree { parent, point }
 }
 

@@ -101,11 +101,16 @@ fn main() -> ExitCode {
         println!("{kind:>16} {count:>9}");
     }
     for (call, numbers) in ["plan", "judge"].iter().zip(&s.numbers) {
-        println!("{call} answers by number, 0 to 12: {numbers:?}");
+        let last = numbers.len() - 1;
+        println!("{call} answers by number, 0 to {last}: {numbers:?}");
     }
     println!(
         "plans in which an edge above a branch point was split: {} of {}",
         s.split_above_branch_point, s.numbers[0][0]
+    );
+    println!(
+        "plans with a pin just at the limit: {}, at an end of the range: {}",
+        s.pin_at_limit, s.pin_at_end
     );
     println!(
         "compared {} cases, {} disagreements",

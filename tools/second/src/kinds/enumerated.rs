@@ -6,7 +6,7 @@ use crate::session::Session;
 use crate::trees;
 use repeater_tree::LISTING_LENGTH;
 use second_reference::listing::Listing;
-use second_reference::net::Net;
+use second_reference::net::{Net, COORDINATE};
 use second_reference::slow::listing_of;
 use second_reference::tree::{fault, worst_slack, Tree};
 
@@ -27,12 +27,14 @@ pub fn legal(s: &mut Session, r: &mut Random) {
         let tree = trees::at_root(&net, parent.clone());
         reached |= worst_slack(&net, &tree) == best as i128;
         rival(s, &net, &text, &tree, best);
-        for spread in [5, 100_000, 1_000_000, 1_000_000_000_000_000] {
-            let tree = trees::placed(r, &net, parent.clone(), spread);
+        for reach in [5, COORDINATE] {
+            let tree = trees::placed(r, &net, parent.clone(), reach);
             rival(s, &net, &text, &tree, best);
-            if spread <= 100_000 {
-                accepted(s, &net, &text, tree);
-            }
+            accepted(s, &net, &text, tree);
+        }
+        for spread in [1_000_000, 1_000_000_000_000_000] {
+            let tree = trees::placed_beyond(r, &net, parent.clone(), spread);
+            rival(s, &net, &text, &tree, best);
         }
     }
     s.expect(

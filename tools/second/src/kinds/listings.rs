@@ -10,8 +10,8 @@ use second_reference::slow::listing_of;
 
 fn random_listing(r: &mut Random, net: &Net) -> Listing {
     let parent = trees::random_parents(r, net.sinks.len());
-    let spread = r.pick(&[3, 5_000, COORDINATE]);
-    let mut tree = trees::placed(r, net, parent, spread);
+    let reach = r.pick(&[3, 5_000, COORDINATE]);
+    let mut tree = trees::placed(r, net, parent, reach);
     if r.once_in(3) {
         for at in &mut tree.point[net.sinks.len() + 1..] {
             at.x = r.pick(&[-COORDINATE, COORDINATE]) as i128;

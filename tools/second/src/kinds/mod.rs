@@ -25,6 +25,7 @@ pub const ALL: &[Kind] = &[
     kind("ties", 1, planned::ties),
     kind("coincident", 1, planned::coincident),
     kind("extremes", 1, planned::extremes),
+    kind("longest", 100, planned::longest),
     kind("path-like", 1, planned::path_like),
     kind("few-spots", 1, planned::few_spots),
     kind("spread-out", 1, planned::spread_out),

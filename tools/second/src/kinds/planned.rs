@@ -10,7 +10,7 @@ use second_reference::net::{Net, NEED};
 
 /// Plans, then judges the plan's own bytes: same slack, same wire, best is the
 /// slack.
-fn plan_and_judge(s: &mut Session, net: &Net) {
+pub fn plan_and_judge(s: &mut Session, net: &Net) {
     let text = net.text();
     let plan = s.plan(&text, LISTING_LENGTH);
     if plan.answer.number != 0 {
@@ -44,16 +44,20 @@ fn plan_and_judge(s: &mut Session, net: &Net) {
 }
 
 pub fn marked(s: &mut Session, _: &mut Random) {
-    let nets: [&[u8]; 6] = [
+    let nets: [&[u8]; 7] = [
         b"root=0,0\nbranch=20\nwire=2\nneed=0\nsinks=3\nsink=10,0,100\nsink=4,6,60\nsink=10,10,70\n",
         b"root=0,0\nbranch=20\nwire=2\nneed=-40\nsinks=3\nsink=0,0,0\nsink=0,0,0\nsink=0,0,0\n",
         b"root=0,0\nbranch=20\nwire=2\nneed=-4\nsinks=1\nsink=3,4,10\n",
         b"root=0,0\nbranch=3\nwire=1\nneed=2\nsinks=2\nsink=0,0,5\nsink=1,0,6\n",
         b"root=0,0\nbranch=20\nwire=2\nneed=-40\nsinks=3\nsink=10,0,20\nsink=10,0,20\nsink=1,0,2\n",
         b"root=0,0\nbranch=20\nwire=2\nneed=-40\nsinks=3\nsink=10,0,20\nsink=0,10,20\nsink=1,10,22\n",
+        b"root=60000,0\nbranch=20\nwire=2\nneed=-80000\nsinks=1\nsink=100000,0,0\n",
     ];
     for text in nets {
-        let mut net = Net::read(text).expect("a marked net");
+        let Ok(mut net) = Net::read(text) else {
+            s.disagree("the slow reference refuses a marked net", &[("net", text)]);
+            continue;
+        };
         plan_and_judge(s, &net);
         net.need += 1;
         plan_and_judge(s, &net);
@@ -82,6 +86,10 @@ pub fn extremes(s: &mut Session, r: &mut Random) {
         r.between(1, 40) as usize
     };
     plan_and_judge(s, &nets::extreme(r, n));
+}
+
+pub fn longest(s: &mut Session, _: &mut Random) {
+    plan_and_judge(s, &nets::longest());
 }
 
 pub fn path_like(s: &mut Session, r: &mut Random) {

@@ -5,6 +5,7 @@ use crate::nets;
 use crate::random::Random;
 use crate::session::Session;
 use repeater_tree::{LISTING_LENGTH, NET_LENGTH};
+use second_reference::net::Net;
 
 /// A net in the format and its plan's listing; now and then a large one.
 fn texts_of_any_size(s: &mut Session, r: &mut Random) -> (Vec<u8>, Vec<u8>) {
@@ -22,12 +23,17 @@ fn small_texts(s: &mut Session, r: &mut Random, most: i64) -> (Vec<u8>, Vec<u8>)
 }
 
 fn texts(s: &mut Session, r: &mut Random, n: usize) -> (Vec<u8>, Vec<u8>) {
-    let net = nets::any(r, n).text();
+    let net = nets::any(r, n);
+    texts_of(s, &net)
+}
+
+fn texts_of(s: &mut Session, net: &Net) -> (Vec<u8>, Vec<u8>) {
+    let net = net.text();
     let listing = s.plan(&net, LISTING_LENGTH).listing().to_vec();
     (net, listing)
 }
 
-fn spoilt(r: &mut Random, text: &[u8]) -> Vec<u8> {
+pub fn spoilt(r: &mut Random, text: &[u8]) -> Vec<u8> {
     let mut text = damage::any(r, text);
     while r.once_in(4) {
         text = damage::any(r, &text);
@@ -86,12 +92,20 @@ pub fn cuts(s: &mut Session, r: &mut Random) {
 /// Each number of both texts in each odd spelling and at each limit.
 pub fn numbers(s: &mut Session, r: &mut Random) {
     let (net, listing) = small_texts(s, r, 4);
-    for other in each_number(&net) {
-        s.plan(&other, LISTING_LENGTH);
-        s.judge(&other, &listing);
-    }
+    net_numbers(s, &net, &listing);
     for other in each_number(&listing) {
         s.judge(&net, &other);
+    }
+    // In a corner a pin at the end of the range is near enough.
+    let n = r.between(1, 4) as usize;
+    let (net, listing) = texts_of(s, &nets::cornered(r, n));
+    net_numbers(s, &net, &listing);
+}
+
+fn net_numbers(s: &mut Session, net: &[u8], listing: &[u8]) {
+    for other in each_number(net) {
+        s.plan(&other, LISTING_LENGTH);
+        s.judge(&other, listing);
     }
 }
 
@@ -105,6 +119,7 @@ fn each_number(text: &[u8]) -> Vec<Vec<u8>> {
             damage::odd_spellings(value),
             damage::congruent(value),
             damage::limits(),
+            damage::across(value),
             small,
         ];
         for by in others.concat() {
