@@ -37,7 +37,7 @@ pub fn compare(s: &mut Session, programs: &Path, work: &Path, seed: u64) -> Resu
     Ok(())
 }
 
-/// Good texts, reachable or not, and each kind of damage in turn.
+/// Good texts, reachable or not, each kind of damage and a far pin in turn.
 fn texts(r: &mut Random, i: u64) -> (Vec<u8>, Vec<u8>) {
     let n = if i == 0 {
         512
@@ -63,6 +63,7 @@ fn texts(r: &mut Random, i: u64) -> (Vec<u8>, Vec<u8>) {
                 damage::of_length(r, &out, LISTING_LENGTH + over).swap_remove(1),
             )
         }
+        0 if i % 2 == 1 => (nets::with_far_pin(r, good).0.text(), out),
         4 if i % 2 == 0 => {
             let long = damage::of_length(r, &out, LISTING_LENGTH + 1).swap_remove(0);
             (net, long)

@@ -1,6 +1,7 @@
 //! The kinds of case. Each draws its cases from one seed.
 
 mod enumerated;
+mod far;
 mod listings;
 mod planned;
 mod spoilt;
@@ -48,4 +49,11 @@ pub const ALL: &[Kind] = &[
     kind("cuts", 20, spoilt::cuts),
     kind("numbers", 40, spoilt::numbers),
     kind("lengths", 10, spoilt::lengths),
+    kind("pin-limit", 10, far::limit),
+    kind("range-ends", 10, far::range_ends),
+    kind("far-pins", 1, far::several),
+    kind("far-and-fault", 5, far::faults),
+    kind("far-cuts", 20, far::cuts),
+    kind("far-listings", 5, far::listings),
+    kind("spoilt-far", 1, far::spoilt_nets),
 ];
