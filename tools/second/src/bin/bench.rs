@@ -32,14 +32,16 @@ const LARGEST: usize = SIZES.len() - 1;
 /// Different nets of one shape and size.
 const NETS: usize = 12;
 
+/// Asserts that the net is accepted, since a refusal would be quick.
 fn library_plan(net: &[u8], out: &mut [u8]) {
     let mut figures = PlanFigures::default();
     plan_figures(black_box(net), out, &mut figures);
-    black_box(&figures);
+    assert_eq!(black_box(&figures).number, 0);
 }
 
 fn plain_plan(net: &[u8], out: &mut [u8]) {
-    black_box(plain::plan(black_box(net), out));
+    let answer = plain::plan(black_box(net), out);
+    assert_eq!(black_box(answer).number, 0);
 }
 
 fn texts(make: Make, n: usize) -> Vec<Vec<u8>> {
