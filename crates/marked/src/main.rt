@@ -1,5 +1,7 @@
-// The marked nets and lines that are checked by running plan: number, text and line of what it returns for each, and its bytes; of request 1's nets the listing.
+// The marked nets and lines that are checked by running plan: number, text and line of what it returns for each, and its bytes; of request 1's nets the listing, of one of request 2's what judge returns.
+use formats::answers::JudgeAnswer;
 use formats::answers::PlanAnswer;
+use formats::judge::judge;
 use formats::plan::plan;
 use libc::STDOUT_FILENO;
 
@@ -19,6 +21,13 @@ fn show_plan(net: &[u8]) {
     match plan(net, &mut out) {
         PlanAnswer::Planned { slack, wire, bytes } => show_figures(0, 0, 0, bytes),
         PlanAnswer::PlanRefused { number, text, line } => show_figures(number, text, line, 0),
+    }
+}
+
+fn show_judgement(net: &[u8], listing: &[u8]) {
+    match judge(net, listing) {
+        JudgeAnswer::Accepted { slack, wire, best } => show_figures(0, 0, 0, 0),
+        JudgeAnswer::JudgeRefused { number, text, line } => show_figures(number, text, line, 0),
     }
 }
 
@@ -74,12 +83,28 @@ fn main() {
     show_plan(
         b"root=0,0\nbranch=20\nwire=2\nneed=0\nsinks=513\nsink=10,0,100\nsink=4,6,60\nsink=10,10,70\n",
     );
-    // X 100000 passes, 100001: 3.
+    // X 100000 passes with a root near enough, else 13 (request 2 of 02), from judge too; 100001: 3.
     show_plan(
-        b"root=0,0\nbranch=20\nwire=2\nneed=-2000000000000\nsinks=3\nsink=100000,0,100\nsink=4,6,60\nsink=10,10,70\n",
+        b"root=60000,0\nbranch=20\nwire=2\nneed=-2000000000000\nsinks=1\nsink=100000,0,100\n",
+    );
+    show_plan(b"root=0,0\nbranch=20\nwire=2\nneed=-2000000000000\nsinks=1\nsink=100000,0,100\n");
+    show_judgement(
+        b"root=0,0\nbranch=20\nwire=2\nneed=-2000000000000\nsinks=1\nsink=100000,0,100\n",
+        b"no listing",
+    );
+    show_plan(b"root=0,0\nbranch=20\nwire=2\nneed=-2000000000000\nsinks=1\nsink=100001,0,100\n");
+    // 40,000 from the root passes, 40,001: 13; by X alone, then by X and Y.
+    show_plan(b"root=0,0\nbranch=20\nwire=2\nneed=-2000000000000\nsinks=1\nsink=40000,0,100\n");
+    show_plan(b"root=0,0\nbranch=20\nwire=2\nneed=-2000000000000\nsinks=1\nsink=40001,0,100\n");
+    show_plan(
+        b"root=-10000,5000\nbranch=20\nwire=2\nneed=-2000000000000\nsinks=1\nsink=5000,-20000,100\n",
     );
     show_plan(
-        b"root=0,0\nbranch=20\nwire=2\nneed=-2000000000000\nsinks=3\nsink=100001,0,100\nsink=4,6,60\nsink=10,10,70\n",
+        b"root=-10000,5000\nbranch=20\nwire=2\nneed=-2000000000000\nsinks=1\nsink=5000,-20001,100\n",
+    );
+    // A far pin, then a line that is misspelt: the first line that is refused.
+    show_plan(
+        b"root=0,0\nbranch=20\nwire=2\nneed=-2000000000000\nsinks=3\nsink=10,0,100\nsink=0,-40001,60\nsink=x\n",
     );
     show_512_sinks();
     // Request 1 of 02: the edge above a branch point is the nearest; sink 2 is nearer than sink 1.
