@@ -1,4 +1,5 @@
-/* Plans a net of three sinks, judges the plan, then asks for too much.
+/* Plans a net of three sinks, judges the plan, then asks for too much and
+ * hands over a pin too far from the root.
  *
  * Build and run, from the repository's root:
  *   cc -std=c99 -Wall -Wextra -o target/example callers/c/example.c \
@@ -10,9 +11,10 @@
 #include <stdio.h>
 #include <string.h>
 
-#define NET(need)                                                  \
+#define NET_WITH(need, last)                                       \
     "root=0,0\nbranch=20\nwire=2\nneed=" need "\nsinks=3\n"        \
-    "sink=10,0,100\nsink=4,6,60\nsink=10,10,70\n"
+    "sink=10,0,100\nsink=4,6,60\nsink=" last "\n"
+#define NET(need) NET_WITH(need, "10,10,70")
 
 static const char expected[] =
     "slack=0\nwire=32\nsinks=3\nleaf=1,5\nleaf=2,5\nleaf=3,4\n"
@@ -62,16 +64,16 @@ static int judge(const uint8_t *listing, size_t length) {
     return 0;
 }
 
-static int ask_too_much(uint8_t *out, size_t length) {
-    const char *net = NET("1");
+static int refused(const char *what, const char *net, uint8_t *out,
+                   size_t length, uint8_t number, size_t line) {
     uint8_t text;
-    size_t line, bytes;
+    size_t at, bytes;
     int64_t slack;
     uint64_t wire;
-    uint8_t number = repeater_tree_plan(bytes_of(net), strlen(net), out, length,
-                                        &text, &line, &slack, &wire, &bytes);
-    printf("need=1: refused=%u,%u,%zu\n", (unsigned)number, (unsigned)text, line);
-    if (number != REPEATER_TREE_UNREACHABLE || text != 1 || line != 4)
+    uint8_t told = repeater_tree_plan(bytes_of(net), strlen(net), out, length,
+                                      &text, &at, &slack, &wire, &bytes);
+    printf("%s: refused=%u,%u,%zu\n", what, (unsigned)told, (unsigned)text, at);
+    if (told != number || text != 1 || at != line)
         return unexpected("another refusal");
     if (slack != 0 || wire != 0 || bytes != 0)
         return unexpected("figures beside a refusal");
@@ -83,5 +85,9 @@ int main(void) {
     size_t bytes = 0;
     if (plan(out, sizeof out, &bytes) != 0) return 1;
     if (judge(out, bytes) != 0) return 1;
-    return ask_too_much(out, sizeof out);
+    if (refused("need=1", NET("1"), out, sizeof out,
+                REPEATER_TREE_UNREACHABLE, 4) != 0)
+        return 1;
+    return refused("a far pin", NET_WITH("0", "10,40000,70"), out, sizeof out,
+                   REPEATER_TREE_FAR_PIN, 8);
 }

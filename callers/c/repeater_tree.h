@@ -27,6 +27,9 @@ extern "C" {
 #define REPEATER_TREE_NET_LENGTH 20480
 #define REPEATER_TREE_LISTING_LENGTH 24576
 
+/* The farthest that a sink may stand from the root, |dx| + |dy|, in um. */
+#define REPEATER_TREE_PIN_LIMIT 40000
+
 /* The refusal's number, the result of both calls. Each says with which text
  * (1 the net, 2 the listing, 0 neither) and line it comes; lines count from 1. */
 enum {
@@ -62,7 +65,11 @@ enum {
     REPEATER_TREE_WRONG_SLACK = 11,
     /* judge: the wire that the listing states is not its wire.
      * Text 2, line 2. */
-    REPEATER_TREE_WRONG_WIRE = 12
+    REPEATER_TREE_WRONG_WIRE = 12,
+    /* The sink on this line of the net stands farther from the root than
+     * REPEATER_TREE_PIN_LIMIT: the net belongs to the global planner. The
+     * lowest such line; on one line 2 and 3 go before. Text 1. */
+    REPEATER_TREE_FAR_PIN = 13
 };
 
 /* Plans a tree of the largest possible worst slack for the net and writes its
@@ -80,8 +87,8 @@ enum {
  *   wire              the plan's wire in um, 0 to 1,000,000,000
  *   bytes             the listing's length, 0 to 24,576
  *
- * Every figure is written by every call. At a refusal (1 to 6) slack, wire and
- * bytes are 0 and no byte of out is changed. */
+ * Every figure is written by every call. At a refusal (1 to 6, 13) slack, wire
+ * and bytes are 0 and no byte of out is changed. */
 uint8_t repeater_tree_plan(const uint8_t *net, size_t net_length,
                            uint8_t *out, size_t out_length,
                            uint8_t *text, size_t *line,
@@ -99,7 +106,7 @@ uint8_t repeater_tree_plan(const uint8_t *net, size_t net_length,
  *   best                      the largest worst slack of any legal tree over
  *                             this net (its Kraft maximum) in fs
  *
- * Every figure is written by every call. At a refusal (1 to 4, 7 to 12) slack,
+ * Every figure is written by every call. At a refusal (1 to 4, 7 to 13) slack,
  * wire and best are 0. The net is refused before the listing is looked at. */
 uint8_t repeater_tree_judge(const uint8_t *net, size_t net_length,
                             const uint8_t *listing, size_t listing_length,

@@ -22,6 +22,10 @@ pub use refusal::Refusal;
 pub const NET_LENGTH: usize = 20_480;
 /// The longest listing that is read, in bytes; enough for every plan.
 pub const LISTING_LENGTH: usize = 24_576;
+/// The farthest that a sink may stand from the root, |dx| + |dy|, in
+/// micrometres. A net with a farther one is refused by number 13, on the
+/// sink's line: it belongs to the global planner.
+pub const PIN_LIMIT: u64 = 40_000;
 
 /// A plan's figures. Its listing is the output's first `bytes` bytes.
 #[derive(Clone, Copy, Debug, PartialEq, Eq)]

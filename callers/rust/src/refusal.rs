@@ -5,7 +5,7 @@ use std::fmt;
 /// Why nothing was planned or measured.
 #[derive(Clone, Copy, Debug, PartialEq, Eq)]
 pub struct Refusal {
-    /// 1 to 12.
+    /// 1 to 13.
     pub number: u8,
     /// 1 the net, 2 the listing, 0 neither.
     pub text: u8,
@@ -36,6 +36,7 @@ impl Refusal {
             (10, _) => "this vertex is not reached from the root",
             (11, _) => "the stated slack is not the tree's worst slack",
             (12, _) => "the stated wire is not the tree's wire",
+            (13, _) => "the sink is more than 40,000 micrometres from the root",
             _ => "unknown refusal",
         }
     }

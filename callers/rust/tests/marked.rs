@@ -1,6 +1,6 @@
-//! The marked net A through the safe calls.
+//! Marked nets through the safe calls.
 
-use repeater_tree::{judge, plan, Measures, Plan, Refusal};
+use repeater_tree::{judge, plan, Measures, Plan, Refusal, PIN_LIMIT};
 
 const LISTING: &[u8] = b"slack=0\nwire=32\nsinks=3\nleaf=1,5\nleaf=2,5\nleaf=3,4\n\
 node=4,0,4,0\nnode=5,4,4,0\n";
@@ -58,6 +58,29 @@ fn refuses_in_plain_words() {
         refusal.to_string(),
         "output: the output is shorter than the listing (refusal 6)"
     );
+}
+
+/// A net of one sink, so far from the root.
+fn pin_at(distance: u64) -> Vec<u8> {
+    format!(
+        "root=0,0\nbranch=20\nwire=2\nneed=-2000000000000\nsinks=1\nsink=1,{},100\n",
+        distance - 1
+    )
+    .into_bytes()
+}
+
+#[test]
+fn refuses_far_pins() {
+    let mut out = [7; 200];
+    assert_eq!(plan(&pin_at(PIN_LIMIT), &mut out).unwrap().wire, PIN_LIMIT);
+    let mut out = [7; 200];
+    let refusal = plan(&pin_at(PIN_LIMIT + 1), &mut out).unwrap_err();
+    assert_eq!(
+        refusal.to_string(),
+        "net line 6: the sink is more than 40,000 micrometres from the root (refusal 13)"
+    );
+    assert_eq!(out, [7; 200]);
+    assert_eq!(judge(&pin_at(PIN_LIMIT + 1), b"").unwrap_err(), refusal);
 }
 
 #[test]
