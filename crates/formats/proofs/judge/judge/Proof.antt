@@ -1,3 +1,4 @@
+-- Judge answers as its definition: a refused head at once, else by the arrays that fit the number of sinks. No loop.
 use mathlib.Core.Path.{sym}
 use borrow.Author.Needs.{needs}
 use Rattle.formats.proofs.Laws.Answers.{judge-refused}

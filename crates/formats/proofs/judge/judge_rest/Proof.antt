@@ -1,3 +1,4 @@
+-- The rest of the net is read into the arrays or refused, then the listing is judged over it. No loop.
 use mathlib.Core.Path.{_≡_, sym, _∙_}
 use native.Mathlib.Omega.{arith}
 use borrow.Author.Needs.{needs}

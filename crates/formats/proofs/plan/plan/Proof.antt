@@ -1,3 +1,4 @@
+-- Plan answers as its definition: a refused head at once, else by the arrays that fit the number of sinks. No loop.
 use borrow.Author.Needs.{needs}
 use Rattle.formats.proofs.Laws.Planning.{refused-answer}
 use Rattle.formats.proofs.plan.plan.Statement.{statement}

@@ -1,3 +1,4 @@
+-- Arrays for 16 sinks are long enough for plan_rest. No loop.
 use native.Mathlib.Omega.{arith}
 use borrow.Author.Needs.{needs}
 use Rattle.formats.proofs.plan.plan_small.Statement.{statement}

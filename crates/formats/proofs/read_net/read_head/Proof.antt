@@ -1,3 +1,4 @@
+-- The first five lines of a net are read, or refused as due: line 1 by what the scanner and the ranges tell, the others by read_branch. No loop.
 use Prim.Native.Nat.{ℕ, _≤_}
 use mathlib.Core.Path.{_≡_, refl, sym, _∙_}
 use mathlib.Core.Logic.{inl, inr}

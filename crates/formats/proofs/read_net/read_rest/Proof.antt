@@ -1,3 +1,4 @@
+-- The root goes to place 0 of the arrays, then the sinks' lines are read. No loop.
 use mathlib.Core.Path.{_∙_}
 use lib.ListN.{length-set}
 use denote.Ref.{now}

@@ -1,3 +1,4 @@
+-- The sinks' lines are read into the arrays, or refused as due: `done` sinks stand there, and the lines left come to the same net (Sinking).
 use Prim.Native.Nat.{_-_}
 use mathlib.Core.Path.{_≡_, refl, sym, _∙_}
 use lib.ListN.{length}

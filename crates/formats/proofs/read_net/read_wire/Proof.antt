@@ -1,3 +1,4 @@
+-- Line 3 of a net and those after it, by what the scanner and the range tell. No loop.
 use Prim.Native.Nat.{ℕ, _+_}
 use mathlib.Core.Path.{_≡_, sym, _∙_}
 use mathlib.Core.Logic.{inl}
