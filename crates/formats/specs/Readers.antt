@@ -1,5 +1,5 @@
 -- What the answers of the two readers mean, by the declared types and the arrays that they fill. Definitions alone.
-use Prim.Native.Nat.{ℕ, _+_, _≤_}
+use Prim.Native.Nat.{ℕ, _+_, _≤_, _<_}
 use mathlib.Core.Path.{_≡_}
 use mathlib.Core.List.{List, [], _∷_}
 use lib.ListN.{length, drop, set}
@@ -37,14 +37,21 @@ abbrev pub afterHead : Head → List ℕ → Outcome Net
 afterHead (HeadRead h root n next) s = fromSinks h root n (drop (next .at) s)
 afterHead (HeadRefused number line) s = refused number line
 
--- the sinks are few enough for the arrays, their lines start in the text, with line 6, and the root is in range
+-- the lines of at most so many sinks start at `next`, in the text, with line 6; the root is in range
+abbrev pub AtSinks : ℕ → List ℕ → Point → ℕ → Place → Type 0
+AtSinks most s root n next = (n ≤ most) × (next .at ≤ length s) × (next .line ≡ 6) × PointWithin positionLimit root
+
 abbrev pub HeadWithin : Head → List ℕ → Type 0
-HeadWithin (HeadRead h root n next) s = (n ≤ sinkLimit) × (next .at ≤ length s) × (next .line ≡ 6) × PointWithin positionLimit root
+HeadWithin (HeadRead h root n next) s = AtSinks sinkLimit s root n next
 HeadWithin (HeadRefused number line) s = Unit {0}
 
 -- the head of the text s is read, with at most so many sinks
 abbrev pub HeadHeld : ℕ → List ℕ → Header → Point → ℕ → Place → Type 0
-HeadHeld most s h root n next = (readNet s ≡ fromSinks h root n (drop (next .at) s)) × (n ≤ most) × (next .at ≤ length s) × (next .line ≡ 6) × PointWithin positionLimit root
+HeadHeld most s h root n next = (readNet s ≡ fromSinks h root n (drop (next .at) s)) × AtSinks most s root n next
+
+-- the arrays have a place i
+abbrev pub HasPlace : ℕ → List ℤ → List ℤ → List ℤ → Type 0
+HasPlace i xs ys required = (i < length xs) × (i < length ys) × (i < length required)
 
 -- the lines from `sinks=` on, where those before it are read; then from each line before it on
 abbrev pub fromCount : Point → ℕ → ℕ → ℤ → List ℕ → Outcome Net

@@ -2,6 +2,7 @@
 ghost use mathlib.Core.Path.{_≡_};
 ghost use Prim.Native.Nat.{_*_, _≤_, _<_};
 ghost use lib.ListN.{length};
+ghost use Rattle.tree.specs.Limits.{sinkLimit};
 ghost use Rattle.tree.specs.Arrays.{netOf, treeOf, HoldsNet, HoldsTree};
 ghost use Rattle.formats.specs.Answers.{judgeFigures, vertexLine, judgeFiguresOf, judgeTree, judgeListing, judgeOf};
 ghost use Rattle.formats.specs.Readers.{HeadHeld};
@@ -184,7 +185,7 @@ fn judge_rest(
     room: &mut [usize],
     listing: &[u8],
 ) -> JudgeAnswer
-    requires head { ⌜ HeadHeld 512 (now net) header root n next ⌝ }
+    requires head { ⌜ HeadHeld sinkLimit (now net) header root n next ⌝ }
     requires room { ⌜ (n < length (now xs)) × (2 * n ≤ length (now xs)) × (n < length (now ys)) × (2 * n ≤ length (now ys)) × (n < length (now required)) × (2 * n ≤ length (now parents)) × (n < length (now own)) × (n < length (now slacks)) × (2 * n ≤ length (now room)) ⌝ }
     ensures { λ r. ⌜ judgeFigures r ≡ judgeOf (now (net .entry)) (now (listing .entry)) ⌝ }
 {
@@ -254,7 +255,7 @@ fn judge_large(
     next: Place,
     listing: &[u8],
 ) -> JudgeAnswer
-    requires head { ⌜ HeadHeld 512 (now net) header root n next ⌝ }
+    requires head { ⌜ HeadHeld sinkLimit (now net) header root n next ⌝ }
     ensures { λ r. ⌜ judgeFigures r ≡ judgeOf (now (net .entry)) (now (listing .entry)) ⌝ }
 {
     let mut xs = [0i64; 1024];

@@ -2,6 +2,7 @@
 ghost use mathlib.Core.Path.{_≡_};
 ghost use Prim.Native.Nat.{_*_, _≤_, _<_};
 ghost use lib.ListN.{length};
+ghost use Rattle.tree.specs.Limits.{sinkLimit};
 ghost use Rattle.tree.specs.Arrays.{netOf, treeOf, HoldsNet};
 ghost use Rattle.formats.specs.Readers.{HeadHeld};
 ghost use Rattle.formats.specs.ListingText.{listingLengthLimit, listingText, ListingInRange};
@@ -137,7 +138,7 @@ fn plan_rest(
     below: &mut [usize],
     out: &mut [u8],
 ) -> PlanAnswer
-    requires head { ⌜ HeadHeld 512 (now net) header root n next ⌝ }
+    requires head { ⌜ HeadHeld sinkLimit (now net) header root n next ⌝ }
     requires room { ⌜ (n < length (now xs)) × (2 * n ≤ length (now xs)) × (n < length (now ys)) × (2 * n ≤ length (now ys)) × (n < length (now required)) × (2 * n ≤ length (now parents)) × (n < length (now own)) × (2 * n ≤ length (now slacks)) × (4 * n ≤ length (now room)) × (2 * n ≤ length (now levels)) × (2 * n ≤ length (now below)) ⌝ }
     ensures figures { λ r. ⌜ planFigures r ≡ planOf (now (net .entry)) (length (now (out .entry))) ⌝ }
     ensures output { λ r. ⌜ now (out .exit) ≡ planOutput (now (net .entry)) (now (out .entry)) ⌝ }
@@ -256,7 +257,7 @@ fn plan_large(
     next: Place,
     out: &mut [u8],
 ) -> PlanAnswer
-    requires head { ⌜ HeadHeld 512 (now net) header root n next ⌝ }
+    requires head { ⌜ HeadHeld sinkLimit (now net) header root n next ⌝ }
     ensures figures { λ r. ⌜ planFigures r ≡ planOf (now (net .entry)) (length (now (out .entry))) ⌝ }
     ensures output { λ r. ⌜ now (out .exit) ≡ planOutput (now (net .entry)) (now (out .entry)) ⌝ }
 {

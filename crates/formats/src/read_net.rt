@@ -8,10 +8,10 @@ ghost use Rattle.quantities.specs.Distance.{distance};
 ghost use Rattle.quantities.specs.Reach.{PointWithin};
 ghost use Rattle.tree.specs.Arrays.{pointAt};
 ghost use Rattle.tree.specs.declared.header.Header.{Header};
-ghost use Rattle.tree.specs.Limits.{positionLimit};
+ghost use Rattle.tree.specs.Limits.{positionLimit, sinkLimit};
 ghost use Rattle.formats.specs.NetText.{pinLimit, sinkRanges, readNet};
 ghost use Rattle.formats.specs.Ranging.{Ranged, listed};
-ghost use Rattle.formats.specs.Readers.{afterHead, HeadWithin, Heads, fromBranch, fromWire, fromNeed, fromCount, fromSinks, SinkSays, netOutcome};
+ghost use Rattle.formats.specs.Readers.{afterHead, AtSinks, HeadWithin, HasPlace, Heads, fromBranch, fromWire, fromNeed, fromCount, fromSinks, SinkSays, netOutcome};
 use crate::limits::BRANCH_LIMIT;
 use crate::limits::NEED_LIMIT;
 use crate::limits::NET_LENGTH_LIMIT;
@@ -193,7 +193,7 @@ fn read_sink(
     ys: &mut [i64],
     required: &mut [i64],
 ) -> SinkLine
-    requires { ⌜ (here .at ≤ length (now text)) × (here .line + 1 < 2 ^ 64) × PointWithin positionLimit root × (s < length (now xs)) × (s < length (now ys)) × (s < length (now required)) ⌝ }
+    requires { ⌜ (here .at ≤ length (now text)) × (here .line + 1 < 2 ^ 64) × PointWithin positionLimit root × HasPlace s (now xs) (now ys) (now required) ⌝ }
     ensures { λ r. ⌜ SinkSays root (now (text .entry)) here s (now (xs .entry)) (now (ys .entry)) (now (required .entry)) r (now (xs .exit)) (now (ys .exit)) (now (required .exit)) ⌝ }
 {
     let Taken::AsDue { numbers, next } = read_line(text, here.at, here.line, b"sink=", 3) else {
@@ -230,7 +230,7 @@ fn read_sinks(
     ys: &mut [i64],
     required: &mut [i64],
 ) -> NetRead
-    requires { ⌜ (from .at ≤ length (now text)) × (from .line ≡ 6) × PointWithin positionLimit root × (root ≡ pointAt (now xs) (now ys) 0) × (n ≤ 512) × (n < length (now xs)) × (n < length (now ys)) × (n < length (now required)) ⌝ }
+    requires { ⌜ AtSinks sinkLimit (now text) root n from × HasPlace n (now xs) (now ys) (now required) × (root ≡ pointAt (now xs) (now ys) 0) ⌝ }
     ensures { λ r. ⌜ ((h : Header) → fromSinks h root n (drop (from .at) (now (text .entry))) ≡ netOutcome h n r (now (xs .exit)) (now (ys .exit)) (now (required .exit))) ⌝ }
 {
     let mut here = from;
@@ -268,7 +268,7 @@ pub fn read_rest(
     ys: &mut [i64],
     required: &mut [i64],
 ) -> NetRead
-    requires { ⌜ (next .at ≤ length (now text)) × (next .line ≡ 6) × PointWithin positionLimit root × (n ≤ 512) × (n < length (now xs)) × (n < length (now ys)) × (n < length (now required)) ⌝ }
+    requires { ⌜ AtSinks sinkLimit (now text) root n next × HasPlace n (now xs) (now ys) (now required) ⌝ }
     ensures { λ r. ⌜ ((h : Header) → fromSinks h root n (drop (next .at) (now (text .entry))) ≡ netOutcome h n r (now (xs .exit)) (now (ys .exit)) (now (required .exit))) ⌝ }
 {
     let x = root.x;

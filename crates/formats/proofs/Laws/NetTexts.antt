@@ -82,7 +82,7 @@ lines-then a b c d e f g = simp append-assoc
 -- a text within its length: its lines are those of a net in the format; or it is refused
 net-cases : {C : Type 0} (s : List ℕ) → length s ≤ netLengthLimit → (o : Outcome Net) → readNetLines s ≡ o → ((e l : ℕ) → 1 ≤ l → l ≤ 5 + sinkLimit → LineRefusal e → o ≡ refused e l → C) → ((l : ℕ) → 7 ≤ l → l ≤ 6 + sinkLimit → o ≡ refused 4 l → C) → ((l : ℕ) → FarPin s l → o ≡ refused 13 l → C) → ((N : Net) → InFormat s N → value N ≡ o → C) → C
 unfolding netLines
-net-cases {C = C} s short o e bad long far f =
+net-cases s short o e bad long far f =
     due-cases 1 rootKey (around positionLimit ∷ (around positionLimit ∷ [])) s _ o e (λ d b u. bad d 1 (omega arith) (omega arith) b u) λ x hx y hy s₁ t₁ e₁.
     due-cases 2 branchKey (upTo branchLimit ∷ []) s₁ _ o e₁ (λ d b u. bad d 2 (omega arith) (omega arith) b u) λ c hc s₂ t₂ e₂.
     due-cases 3 wireKey (upTo wireFactorLimit ∷ []) s₂ _ o e₂ (λ d b u. bad d 3 (omega arith) (omega arith) b u) λ d hd s₃ t₃ e₃.

@@ -19,14 +19,14 @@ judge-small-requires c κs =
     let g = c .before .before .header .given .1 in
     let e = c .before .before .before .before .read-head .ensures in
     let w = rw g at (e .1) in
-    (rw g at (e .0), c .if1 .taken, w .1, w .2, w .3)
+    (rw g at (e .0), (c .if1 .taken, w .1, w .2, w .3))
 
 judge-large-requires : tie.Need-judge-large-requires
 judge-large-requires c κs =
     let g = c .before .before .header .given .1 in
     let e = c .before .before .before .before .read-head .ensures in
     let w = rw g at (e .1) in
-    (rw g at (e .0), w .0, w .1, w .2, w .3)
+    (rw g at (e .0), w)
 
 returns : tie.Need-returns
 returns c = sym (judge-refused _ _ _ (rw (c .before .number .given .1) at (c .before .before .before .read-head .ensures .0)) _)

@@ -28,7 +28,7 @@ slice-aggregate-judge-rest-7 c = search needs
 judge-rest-requires : tie.Need-judge-rest-requires
 judge-rest-requires c κs =
     let p = c .before .before .before .before .before .before .before .before .before .pre in
-    ((p .0, omega (arith, p .1), p .2, p .3, p .4), omega (arith, p .1))
+    ((p .0, (omega (arith, p .1 .0), p .1 .1, p .1 .2, p .1 .3)), omega (arith, p .1 .0))
 
 returns : tie.Need-returns
 returns c = search needs

@@ -18,21 +18,21 @@ plan-small-requires c κs =
     let g = c .before .before .before .header .given .1 in
     let e = c .before .before .before .before .before .read-head .ensures in
     let w = rw g at (e .1) in
-    (rw g at (e .0), c .before .if1 .taken, w .1, w .2, w .3)
+    (rw g at (e .0), (c .before .if1 .taken, w .1, w .2, w .3))
 
 plan-medium-requires : tie.Need-plan-medium-requires
 plan-medium-requires c κs =
     let g = c .before .before .before .before .header .given .1 in
     let e = c .before .before .before .before .before .before .read-head .ensures in
     let w = rw g at (e .1) in
-    (rw g at (e .0), c .before .if2 .taken, w .1, w .2, w .3)
+    (rw g at (e .0), (c .before .if2 .taken, w .1, w .2, w .3))
 
 plan-large-requires : tie.Need-plan-large-requires
 plan-large-requires c κs =
     let g = c .before .before .before .before .header .given .1 in
     let e = c .before .before .before .before .before .before .read-head .ensures in
     let w = rw g at (e .1) in
-    (rw g at (e .0), w .0, w .1, w .2, w .3)
+    (rw g at (e .0), w)
 
 returns : tie.Need-returns
 returns c = refused-answer _ _ _ _ (rw (c .before .number .given .1) at (c .before .before .before .read-head .ensures .0))

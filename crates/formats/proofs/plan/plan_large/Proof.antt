@@ -34,7 +34,7 @@ slice-aggregate-plan-rest-9 c = search needs
 plan-rest-requires : tie.Need-plan-rest-requires
 plan-rest-requires c κs =
     let p = c .before .before .before .before .before .before .before .before .before .before .before .before .pre in
-    ((p .0, omega (arith, p .1), p .2, p .3, p .4), omega (arith, p .1))
+    ((p .0, (omega (arith, p .1 .0), p .1 .1, p .1 .2, p .1 .3)), omega (arith, p .1 .0))
 
 same-length : tie.Need-same-length
 same-length c = search needs

@@ -21,16 +21,8 @@ read-sinks-requires c κs =
     let b = c .before .before .before .before .before .before in
     let a = b .args in
     let ex = toZ-ofZ (fit (a .root .x) (c .before .before .before .before .struct-told .given .0 .1)) in
-    let ey = toZ-ofZ (fit (a .root .y) (c .before .before .before .struct-told2 .given .1 .0 .1)) in (
-      b .pre .0,
-      b .pre .1,
-      b .pre .2,
-      root-stored (a .root) (now (a .xs)) (now (a .ys)) (omega (arith, b .pre .4)) (omega (arith, b .pre .5)) _ _ ex ey,
-      b .pre .3,
-      rw length-set (b .pre .4),
-      rw length-set (b .pre .5),
-      b .pre .6,
-    )
+    let ey = toZ-ofZ (fit (a .root .y) (c .before .before .before .struct-told2 .given .1 .0 .1)) in
+    (b .pre .0, (rw length-set (b .pre .1 .0), rw length-set (b .pre .1 .1), b .pre .1 .2), root-stored (a .root) (now (a .xs)) (now (a .ys)) (omega (arith, b .pre .1 .0)) (omega (arith, b .pre .1 .1)) _ _ ex ey)
 
 same-length : tie.Need-same-length
 same-length c = c .before .before .before .read-sinks .kept .1 .1 .1 .1 .0 ∙ simp length-set

@@ -117,7 +117,7 @@ mul-x : tie.Need-mul-x
 mul-x c =
     let p = start (line (near c)) in
     let g = p .good .1 .1 .1 .1 .0 in
-    let b = p .pre .3 in
+    let b = p .pre .3 .0 in
     search needs
 
 slice-set-from-x : tie.Need-slice-set-from-x

@@ -21,7 +21,7 @@ abbrev μ-loop : tie.MeasureT-loop
 loop-holds : tie.Need-loop-holds Inv-loop μ-loop
 loop-holds c =
     let b = c .before in
-    (sinking-start _ (b .args .n) _ (b .args .from) _ _ _ (b .pre .0) (b .pre .1) (b .pre .5) (b .pre .6) (b .pre .7) (b .pre .3), refl, refl, refl)
+    (sinking-start _ (b .args .n) _ (b .args .from) _ _ _ (b .pre .0 .1) (b .pre .0 .2) (b .pre .1 .0) (b .pre .1 .1) (b .pre .1 .2) (b .pre .2), refl, refl, refl)
 
 add-read-sink : tie.Need-add-read-sink Inv-loop μ-loop
 add-read-sink c = search needs
