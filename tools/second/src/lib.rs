@@ -1,4 +1,4 @@
-//! Comparison of the library with the reference, kind of case by kind.
+//! Comparison of the library with the references, kind of case by kind.
 
 pub mod damage;
 pub mod kinds;
@@ -6,8 +6,10 @@ pub mod library;
 pub mod near;
 pub mod nets;
 pub mod pins;
+pub mod planners;
 pub mod programs;
 pub mod random;
 pub mod session;
+pub mod shapes;
 pub mod timing;
 pub mod trees;

@@ -2,10 +2,12 @@
 //! every disagreement so that it can be replayed.
 
 use crate::library;
+use crate::planners::{Planner, GATHERED, PLAIN, SLOW};
 use second_reference::answer::Answer;
+use second_reference::gathered::Checked;
 use second_reference::listing::Listing;
 use second_reference::net::{Net, Sink, COORDINATE, PIN_LIMIT};
-use second_reference::{kraft, plain, slow};
+use second_reference::{gathered, kraft, plain, slow};
 use std::collections::BTreeMap;
 
 /// Past the output lent to the library; must stay as it was.
@@ -13,6 +15,8 @@ const GUARD: usize = 64;
 /// Enough to see what is wrong without flooding the screen.
 const MOST_PRINTED: usize = 20;
 const LAST_NUMBER: u8 = 13;
+/// Gathering takes long on large nets: one case in so many has them.
+const LARGE_GATHERED: u64 = 8;
 
 #[derive(Default)]
 pub struct Session {
@@ -26,6 +30,10 @@ pub struct Session {
     /// Plans of nets with a pin just at the limit, and at an end of the range.
     pub pin_at_limit: u64,
     pub pin_at_end: u64,
+    /// Plans by the gathering planner, and its numbers held to their
+    /// definitions.
+    pub gathered_plans: u64,
+    pub gathered: Checked,
     pub disagreements: usize,
 }
 
@@ -58,26 +66,49 @@ impl Session {
         let mut out = fill(length + GUARD);
         let answer = library::plan(net, &mut out[..length]);
         self.numbers[0][answer.number.min(LAST_NUMBER) as usize] += 1;
-        let mut other = fill(length + GUARD);
-        let expected = plain::plan(net, &mut other[..length]);
-        self.compare_plan("plain", net, (answer, &out), (expected, &other));
+        let got = (answer, &out[..]);
+        let plain = self.compare_with(PLAIN, net, got);
         let read = Net::read(net);
-        if let (Ok(read), 0) = (&read, expected.number) {
-            self.count_split(read, &other[..expected.last as usize]);
-            self.count_pins(read);
+        let small = !matches!(&read, Ok(net) if net.sinks.len() > slow::MOST_SINKS);
+        if small {
+            self.compare_with(SLOW, net, got);
         }
-        match read {
-            Ok(read) if read.sinks.len() > slow::MOST_SINKS => {
-                self.compare_kraft(net, length, answer, &read)
+        if let Ok(read) = &read {
+            if plain.answer.number == 0 {
+                self.count_split(read, plain.listing());
+                self.count_pins(read);
             }
-            _ => {
-                let mut other = fill(length + GUARD);
-                let expected = slow::plan(net, &mut other[..length]);
-                self.compare_plan("slow", net, (answer, &out), (expected, &other));
+            if !small {
+                self.compare_kraft(net, length, answer, read);
+            }
+            if small || self.seed % LARGE_GATHERED == 0 {
+                let gathered = self.compare_with(GATHERED, net, got);
+                self.gathered_plans += u64::from(gathered.answer.number == 0);
             }
         }
         out.truncate(length);
         Planned { answer, out }
+    }
+
+    /// The reference's plan with an output of the same length.
+    fn compare_with(&mut self, by: Planner, net: &[u8], got: (Answer, &[u8])) -> Planned {
+        let mut out = fill(got.1.len());
+        let length = out.len() - GUARD;
+        let answer = by.1(net, &mut out[..length]);
+        self.compare_plan(by.0, net, got, (answer, &out));
+        Planned { answer, out }
+    }
+
+    /// Each gathered number and each edge's number against its definition.
+    pub fn check_gathered(&mut self, net: &Net) {
+        self.count();
+        match gathered::check(net) {
+            Ok(checked) => {
+                self.gathered.vertices += checked.vertices;
+                self.gathered.edges += checked.edges;
+            }
+            Err(what) => self.disagree(&what, &[("net", &net.text())]),
+        }
     }
 
     /// The branch point that splits an edge is made after its lower end, so it

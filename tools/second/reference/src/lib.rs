@@ -1,11 +1,16 @@
-//! Plan and judge, written twice from the order alone.
+//! Plan and judge, written twice from the order alone, and plan once more in
+//! request 3's order of work.
 //!
 //! `slow` does what the order says word by word: it builds and measures every
 //! candidate tree, and takes the Kraft maximum from its definition.
+//! `gathered` tries the edges from the smallest slack under each vertex; all
+//! else it shares with `slow`.
 //! `plain` is what a competent engineer would write, quadratic in the sinks;
-//! it shares nothing with `slow` but the form of the answer.
+//! it shares nothing with these but the form of the answer.
 
 pub mod answer;
+pub mod gathered;
+pub mod insertion;
 pub mod kraft;
 pub mod listing;
 pub mod net;

@@ -1,10 +1,10 @@
-//! The marked nets and lines of the order, on both references.
+//! The marked nets and lines of the order, on all references.
 
 use crate::answer::Answer;
 use crate::kraft;
 use crate::net::Net;
 use crate::tree::{median, Point};
-use crate::{plain, slow};
+use crate::{gathered, insertion, plain, slow};
 
 const A_LISTING: &str = "slack=0\nwire=32\nsinks=3\nleaf=1,5\nleaf=2,5\nleaf=3,4\n\
 node=4,0,4,0\nnode=5,4,4,0\n";
@@ -19,9 +19,11 @@ fn a(need: &str) -> String {
 fn plan(net: &str) -> (Answer, String) {
     let mut out = vec![b'?'; 30_000];
     let answer = slow::plan(net.as_bytes(), &mut out);
-    let mut other = vec![b'?'; 30_000];
-    assert_eq!(answer, plain::plan(net.as_bytes(), &mut other));
-    assert_eq!(out, other);
+    for plan in [plain::plan, gathered::plan] {
+        let mut other = vec![b'?'; 30_000];
+        assert_eq!(answer, plan(net.as_bytes(), &mut other));
+        assert_eq!(out, other);
+    }
     let written = if answer.number == 0 {
         answer.last as usize
     } else {
@@ -63,6 +65,30 @@ fn net_a() {
     assert_eq!(text, A_LISTING);
     assert_eq!(judge(&a("0"), A_LISTING), Answer::done(0, 32, 0));
     assert_eq!(refused_plan(&a("1")), (5, 1, 4));
+}
+
+/// Request 3: what is gathered and tried for A's second and third sink, each
+/// vertex or lower end with its number.
+#[test]
+fn gathered_for_net_a() {
+    let net = Net::read(a("0").as_bytes()).unwrap();
+    let mut steps = Vec::new();
+    insertion::planned(&net, |i| {
+        let gathered = gathered::gather(i);
+        let ends: Vec<usize> = i.lower_ends().collect();
+        let under = [&[0], &ends[..]].concat();
+        steps.push((
+            under.iter().map(|&v| (v, gathered.under(v))).collect(),
+            ends.iter().map(|&v| (v, gathered.tried(v))).collect(),
+        ));
+        gathered.best_end()
+    });
+    let second = (vec![(0, 30), (3, 30)], vec![(3, 10)]);
+    let third = (
+        vec![(0, 10), (3, 10), (2, 20), (4, 10)],
+        vec![(3, -10), (2, 0), (4, -10)],
+    );
+    assert_eq!(steps, [second, third]);
 }
 
 #[test]

@@ -1,10 +1,11 @@
-//! The two references against each other on small random nets.
+//! The references against each other on small random nets, and the gathered
+//! numbers against their definitions.
 
 use crate::answer::{Answer, Refusal};
 use crate::kraft;
 use crate::net::{Net, Sink};
 use crate::tree::Point;
-use crate::{plain, slow};
+use crate::{gathered, plain, slow};
 
 struct Random(u64);
 
@@ -63,12 +64,15 @@ fn pin_at_limit(r: &mut Random, root: Point) -> Point {
     }
 }
 
-/// Answers of plan and of judge on its listing, the same from both references.
+/// Answers of plan and of judge on its listing, the same from all references.
 fn agreed(text: &[u8]) -> (Answer, Answer) {
-    let (mut one, mut two) = (vec![200; 2000], vec![200; 2000]);
+    let mut one = vec![200; 2000];
     let planned = slow::plan(text, &mut one);
-    assert_eq!(planned, plain::plan(text, &mut two));
-    assert_eq!(one, two);
+    for plan in [plain::plan, gathered::plan] {
+        let mut two = vec![200; 2000];
+        assert_eq!(planned, plan(text, &mut two));
+        assert_eq!(one, two);
+    }
     let listing = &one[..planned.last as usize];
     let judged = slow::judge(text, listing);
     assert_eq!(judged, plain::judge(text, listing));
@@ -88,14 +92,33 @@ fn check_plan(net: &Net) {
     );
 }
 
+/// In turn from pins side by side to pins across the die.
+fn net_of_round(r: &mut Random, round: usize) -> Net {
+    let spread = [2, 6, 30, 1000, 99_000][round % 5];
+    let reach = 40_000.min(2 * spread);
+    random_net(r, spread, |r, root| near_pin(r, root, reach))
+}
+
 #[test]
-fn slow_and_plain_agree() {
+fn all_references_agree() {
     let mut r = Random(88172645463325252);
     for round in 0..600 {
-        let spread = [2, 6, 30, 1000, 99_000][round % 5];
-        let reach = 40_000.min(2 * spread);
-        let net = random_net(&mut r, spread, |r, root| near_pin(r, root, reach));
-        check_plan(&net);
+        check_plan(&net_of_round(&mut r, round));
+    }
+}
+
+/// A tree of k sinks has 2k vertices and 2k-1 edges, and all are checked.
+#[test]
+fn gathered_numbers_are_as_defined() {
+    let mut r = Random(3);
+    for round in 0..600 {
+        let net = net_of_round(&mut r, round);
+        let checked = gathered::check(&net).unwrap();
+        let n = net.sinks.len() as u64;
+        assert_eq!(
+            (checked.vertices, checked.edges),
+            (n * (n - 1), (n - 1) * (n - 1))
+        );
     }
 }
 

@@ -67,21 +67,47 @@ fn reached(n: usize, parent: &[usize], mut v: usize) -> bool {
     false
 }
 
+/// The vertices from v up to the root, both included, in a legal tree.
+pub fn path(tree: &Tree, v: usize) -> impl Iterator<Item = usize> + '_ {
+    std::iter::successors(Some(v), |&v| (v != 0).then(|| tree.parent[v]))
+}
+
+/// Branch points on the path to the root, v itself not counted.
+pub fn branch_points_above(tree: &Tree, v: usize) -> i128 {
+    path(tree, v).skip(1).filter(|&u| u != 0).count() as i128
+}
+
 /// Slack of sink k over a legal tree.
 pub fn slack(net: &Net, tree: &Tree, k: usize) -> i128 {
-    let mut length = 0;
-    let mut branch_points = 0;
-    let mut v = k;
-    while v != 0 {
-        let up = tree.parent[v];
-        length += tree.point[v].distance(tree.point[up]);
-        if up != 0 {
-            branch_points += 1;
-        }
-        v = up;
-    }
+    let length: i128 = path(tree, k)
+        .take_while(|&v| v != 0)
+        .map(|v| tree.point[v].distance(tree.point[tree.parent[v]]))
+        .sum();
     let sink = &net.sinks[k - 1];
-    sink.arrival as i128 - net.wire as i128 * length - net.branch as i128 * branch_points
+    sink.arrival as i128
+        - net.wire as i128 * length
+        - net.branch as i128 * branch_points_above(tree, k)
+}
+
+/// The children of each vertex, of those given.
+pub fn children(tree: &Tree, given: impl Iterator<Item = usize>) -> Vec<Vec<usize>> {
+    let mut children = vec![Vec::new(); tree.parent.len()];
+    for v in given {
+        children[tree.parent[v]].push(v);
+    }
+    children
+}
+
+/// The root and all below it, each after its children.
+pub fn leaves_up(children: &[Vec<usize>]) -> Vec<usize> {
+    let mut order = vec![0];
+    let mut next = 0;
+    while next < order.len() {
+        order.extend(&children[order[next]]);
+        next += 1;
+    }
+    order.reverse();
+    order
 }
 
 pub fn worst_slack(net: &Net, tree: &Tree) -> i128 {

@@ -3,16 +3,14 @@
 //! small nets, then the growth.
 
 use repeater_tree::{judge_figures, plan_figures, JudgeFigures, PlanFigures, LISTING_LENGTH};
-use second_reference::net::Net;
 use second_reference::plain;
 use second_tool::near;
 use second_tool::nets;
 use second_tool::random::Random;
+use second_tool::shapes::Make;
 use second_tool::timing::{compare, median, Pair};
 use std::hint::black_box;
 use std::time::{Duration, Instant};
-
-type Make = fn(&mut Random, usize) -> Net;
 
 const SHAPES: [(&str, Make); 9] = [
     ("common", nets::common),

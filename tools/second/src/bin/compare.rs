@@ -113,6 +113,10 @@ fn main() -> ExitCode {
         s.pin_at_limit, s.pin_at_end
     );
     println!(
+        "plans by gathering: {}; gathered numbers as defined: {} of vertices, {} of edges",
+        s.gathered_plans, s.gathered.vertices, s.gathered.edges
+    );
+    println!(
         "compared {} cases, {} disagreements",
         s.total(),
         s.disagreements

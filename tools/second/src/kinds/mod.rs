@@ -35,6 +35,7 @@ pub const ALL: &[Kind] = &[
     kind("512-sinks", 10, planned::full),
     kind("near-512", 10, planned::near_full),
     kind("small", 1, planned::small),
+    kind("gathered", 1, planned::gathered),
     kind("need", 1, planned::need),
     kind("outputs", 1, planned::outputs),
     kind("enumerated", 10, enumerated::legal),

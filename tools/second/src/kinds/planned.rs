@@ -4,9 +4,11 @@ use crate::near;
 use crate::nets;
 use crate::random::Random;
 use crate::session::Session;
+use crate::shapes::{MARKED, SHAPES};
 use repeater_tree::LISTING_LENGTH;
 use second_reference::kraft;
 use second_reference::net::{Net, NEED};
+use second_reference::slow;
 
 /// Plans, then judges the plan's own bytes: same slack, same wire, best is the
 /// slack.
@@ -44,16 +46,7 @@ pub fn plan_and_judge(s: &mut Session, net: &Net) {
 }
 
 pub fn marked(s: &mut Session, _: &mut Random) {
-    let nets: [&[u8]; 7] = [
-        b"root=0,0\nbranch=20\nwire=2\nneed=0\nsinks=3\nsink=10,0,100\nsink=4,6,60\nsink=10,10,70\n",
-        b"root=0,0\nbranch=20\nwire=2\nneed=-40\nsinks=3\nsink=0,0,0\nsink=0,0,0\nsink=0,0,0\n",
-        b"root=0,0\nbranch=20\nwire=2\nneed=-4\nsinks=1\nsink=3,4,10\n",
-        b"root=0,0\nbranch=3\nwire=1\nneed=2\nsinks=2\nsink=0,0,5\nsink=1,0,6\n",
-        b"root=0,0\nbranch=20\nwire=2\nneed=-40\nsinks=3\nsink=10,0,20\nsink=10,0,20\nsink=1,0,2\n",
-        b"root=0,0\nbranch=20\nwire=2\nneed=-40\nsinks=3\nsink=10,0,20\nsink=0,10,20\nsink=1,10,22\n",
-        b"root=60000,0\nbranch=20\nwire=2\nneed=-80000\nsinks=1\nsink=100000,0,0\n",
-    ];
-    for text in nets {
+    for (_, text) in MARKED {
         let Ok(mut net) = Net::read(text) else {
             s.disagree("the slow reference refuses a marked net", &[("net", text)]);
             continue;
@@ -137,6 +130,15 @@ pub fn full(s: &mut Session, r: &mut Random) {
 pub fn small(s: &mut Session, r: &mut Random) {
     let n = r.between(1, 24) as usize;
     plan_and_judge(s, &nets::any(r, n));
+}
+
+/// Every number from which the edges are tried, on nets of every shape.
+pub fn gathered(s: &mut Session, r: &mut Random) {
+    let n = r.between(1, slow::MOST_SINKS as i64) as usize;
+    let (_, make) = r.pick(&SHAPES);
+    let net = make(r, n);
+    plan_and_judge(s, &net);
+    s.check_gathered(&net);
 }
 
 /// 5 exactly where the need is above the Kraft maximum.

@@ -1,0 +1,59 @@
+//! Every shape of net that is drawn, by name.
+
+use crate::near;
+use crate::nets;
+use crate::random::Random;
+use second_reference::net::Net;
+
+pub type Make = fn(&mut Random, usize) -> Net;
+
+pub const SHAPES: [(&str, Make); 16] = [
+    ("common", nets::common),
+    ("tied", nets::tied),
+    ("coincident", nets::coincident),
+    ("cornered", nets::cornered),
+    ("extreme", nets::extreme),
+    ("rising-path", nets::rising),
+    ("deep-path", near::deep),
+    ("spare", nets::spare),
+    ("falling", nets::falling),
+    ("few-spots", near::few_spots),
+    ("one-spot", near::one_spot),
+    ("spread-out", near::spread_out),
+    ("as-near", near::as_near),
+    ("near-root", near::near_root),
+    ("tree-near-root", near::tree_near_root),
+    ("path-near-root", near::path_near_root),
+];
+
+/// The marked nets of 01 and of requests 1 and 2.
+pub const MARKED: [(&str, &[u8]); 7] = [
+    (
+        "marked-a-3",
+        b"root=0,0\nbranch=20\nwire=2\nneed=0\nsinks=3\nsink=10,0,100\nsink=4,6,60\nsink=10,10,70\n",
+    ),
+    (
+        "marked-at-root-3",
+        b"root=0,0\nbranch=20\nwire=2\nneed=-40\nsinks=3\nsink=0,0,0\nsink=0,0,0\nsink=0,0,0\n",
+    ),
+    (
+        "marked-alone-1",
+        b"root=0,0\nbranch=20\nwire=2\nneed=-4\nsinks=1\nsink=3,4,10\n",
+    ),
+    (
+        "marked-equal-2",
+        b"root=0,0\nbranch=3\nwire=1\nneed=2\nsinks=2\nsink=0,0,5\nsink=1,0,6\n",
+    ),
+    (
+        "marked-branch-point-nearest-3",
+        b"root=0,0\nbranch=20\nwire=2\nneed=-40\nsinks=3\nsink=10,0,20\nsink=10,0,20\nsink=1,0,2\n",
+    ),
+    (
+        "marked-nearer-sink-3",
+        b"root=0,0\nbranch=20\nwire=2\nneed=-40\nsinks=3\nsink=10,0,20\nsink=0,10,20\nsink=1,10,22\n",
+    ),
+    (
+        "marked-range-end-1",
+        b"root=60000,0\nbranch=20\nwire=2\nneed=-80000\nsinks=1\nsink=100000,0,0\n",
+    ),
+];
