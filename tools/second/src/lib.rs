@@ -1,4 +1,5 @@
-//! Comparison of the library with the references, kind of case by kind.
+//! Comparison of the library with the references, kind of case by kind, and
+//! with the stored listings.
 
 pub mod damage;
 pub mod kinds;
@@ -11,5 +12,6 @@ pub mod programs;
 pub mod random;
 pub mod session;
 pub mod shapes;
+pub mod stored;
 pub mod timing;
 pub mod trees;

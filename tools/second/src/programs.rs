@@ -8,25 +8,75 @@ use repeater_tree::{LISTING_LENGTH, NET_LENGTH};
 use second_reference::answer::Answer;
 use second_reference::plain;
 use std::io::{Result, Write};
-use std::path::Path;
+use std::path::{Path, PathBuf};
 use std::process::{Command, Stdio};
 
 const CASES: u64 = 60;
 
-/// `work` is a folder of the caller's for net.txt and tree.txt.
-pub fn compare(s: &mut Session, programs: &Path, work: &Path, seed: u64) -> Result<()> {
-    let programs = programs.canonicalize()?;
+/// The folder of the programs, and one to work in for as long as this lives.
+pub struct Programs {
+    folder: PathBuf,
+    work: PathBuf,
+}
+
+impl Programs {
+    pub fn of(folder: &Path) -> Result<Programs> {
+        let name = format!("repeater_tree_programs_{}", std::process::id());
+        let programs = Programs {
+            folder: folder.canonicalize()?,
+            work: std::env::temp_dir().join(name),
+        };
+        std::fs::create_dir_all(&programs.work)?;
+        Ok(programs)
+    }
+
+    /// What `plan` prints.
+    pub fn plan(&self, net: &[u8]) -> Result<Vec<u8>> {
+        let mut child = Command::new(self.folder.join("plan"))
+            .stdin(Stdio::piped())
+            .stdout(Stdio::piped())
+            .spawn()?;
+        let mut input = child.stdin.take().expect("piped");
+        // In two pieces, as a pipe may deliver it. A program may stop reading
+        // at the length limit, so a broken pipe is no fault.
+        let (front, back) = net.split_at(net.len() / 2);
+        let _ = input
+            .write_all(front)
+            .and_then(|()| input.flush())
+            .and_then(|()| input.write_all(back));
+        drop(input);
+        Ok(child.wait_with_output()?.stdout)
+    }
+
+    /// What `judge` prints.
+    pub fn judge(&self, net: &[u8], listing: &[u8]) -> Result<Vec<u8>> {
+        std::fs::write(self.work.join("net.txt"), net)?;
+        std::fs::write(self.work.join("tree.txt"), listing)?;
+        Ok(Command::new(self.folder.join("judge"))
+            .current_dir(&self.work)
+            .output()?
+            .stdout)
+    }
+}
+
+impl Drop for Programs {
+    fn drop(&mut self) {
+        let _ = std::fs::remove_dir_all(&self.work);
+    }
+}
+
+pub fn compare(s: &mut Session, programs: &Programs, seed: u64) -> Result<()> {
     for i in 0..CASES {
         let mut r = Random::new(seed.wrapping_add(i));
         let (net, listing) = texts(&mut r, i);
         s.start("program-plan", seed);
         s.count();
-        let printed = run_plan(&programs, &net)?;
+        let printed = programs.plan(&net)?;
         report(s, &printed, &expected_plan(&net), &[("net", &net)]);
         s.start("program-judge", seed);
         s.count();
-        let printed = run_judge(&programs, work, &net, &listing)?;
-        let expected = expected_judge(&net, &listing);
+        let printed = programs.judge(&net, &listing)?;
+        let expected = judge_text(plain::judge(&net, &listing));
         report(
             s,
             &printed,
@@ -87,38 +137,12 @@ fn expected_plan(net: &[u8]) -> Vec<u8> {
     }
 }
 
-fn expected_judge(net: &[u8], listing: &[u8]) -> Vec<u8> {
-    let a = plain::judge(net, listing);
+/// What `judge` must print for this answer.
+pub fn judge_text(a: Answer) -> Vec<u8> {
     match a.number {
         0 => format!("slack={}\nwire={}\nbest={}\n", a.slack, a.wire, a.last).into_bytes(),
         _ => refused(a),
     }
-}
-
-fn run_plan(programs: &Path, net: &[u8]) -> Result<Vec<u8>> {
-    let mut child = Command::new(programs.join("plan"))
-        .stdin(Stdio::piped())
-        .stdout(Stdio::piped())
-        .spawn()?;
-    let mut input = child.stdin.take().expect("piped");
-    // In two pieces, as a pipe may deliver it. A program may stop reading at
-    // the length limit, so a broken pipe is no fault.
-    let (front, back) = net.split_at(net.len() / 2);
-    let _ = input
-        .write_all(front)
-        .and_then(|()| input.flush())
-        .and_then(|()| input.write_all(back));
-    drop(input);
-    Ok(child.wait_with_output()?.stdout)
-}
-
-fn run_judge(programs: &Path, work: &Path, net: &[u8], listing: &[u8]) -> Result<Vec<u8>> {
-    std::fs::write(work.join("net.txt"), net)?;
-    std::fs::write(work.join("tree.txt"), listing)?;
-    Ok(Command::new(programs.join("judge"))
-        .current_dir(work)
-        .output()?
-        .stdout)
 }
 
 fn report(s: &mut Session, printed: &[u8], expected: &[u8], texts: &[(&str, &[u8])]) {

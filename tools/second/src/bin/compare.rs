@@ -4,7 +4,7 @@
 //! over all kinds of case. Exits with 1 if anything disagrees.
 
 use second_tool::kinds::ALL;
-use second_tool::programs;
+use second_tool::programs::{self, Programs};
 use second_tool::random::Random;
 use second_tool::session::Session;
 use std::path::PathBuf;
@@ -77,11 +77,7 @@ fn rounds(s: &mut Session, seed: u64, rounds: u64) {
 
 fn run_programs(s: &mut Session, folder: Option<PathBuf>, seed: u64) -> std::io::Result<()> {
     let Some(folder) = folder else { return Ok(()) };
-    let work = std::env::temp_dir().join(format!("repeater_tree_compare_{}", std::process::id()));
-    std::fs::create_dir_all(&work)?;
-    let result = programs::compare(s, &folder, &work, seed);
-    std::fs::remove_dir_all(&work)?;
-    result
+    programs::compare(s, &Programs::of(&folder)?, seed)
 }
 
 fn main() -> ExitCode {
