@@ -43,6 +43,7 @@ pub mod Merging
 pub mod Measuring
 pub mod NetArrays
 pub mod Gathering
+pub mod SmallestSlack
 pub mod Regathering
 pub mod Inserting
 pub mod PlanArrays

@@ -1,7 +1,7 @@
--- The marked nets of document 01, and two of request 1 of 02, and what is said of them, as far as it needs no text: one statement.
+-- The marked nets of document 01, two of request 1 of 02, and the numbers of request 3, as far as they need no text: one statement.
 use Prim.Native.Nat.{ℕ, _<_}
 use mathlib.Core.Path.{_≡_}
-use mathlib.Core.List.{[], _∷_}
+use mathlib.Core.List.{[], _∷_, map}
 use mathlib.Core.Option.{some, none}
 use lib.IntN.{ℤ, pos, negℤ}
 use lib.Signed.{_<ℤ_}
@@ -12,6 +12,7 @@ use Rattle.tree.specs.Tree.{Tree, Legal, LegalTree}
 use Rattle.tree.specs.Measures.{worstSlack, wireLength}
 use Rattle.tree.specs.Kraft.{IsKraftMaximum}
 use Rattle.tree.specs.Settling.{plan}
+use Rattle.tree.specs.SmallestSlack.{leastUnder, worstWith}
 use Rattle.tree.specs.Defects.{wrongChildren, unreached}
 
 abbrev pub at : ℤ → ℤ → Point
@@ -95,6 +96,14 @@ pub record Marked : Type 0 where
   pub nearest-sink : plan nearerSink ≡ record { parents = 4 ∷ (5 ∷ (5 ∷ (0 ∷ (4 ∷ [])))); points = at (pos 0) (pos 0) ∷ (at (pos 0) (pos 10) ∷ []) }
   pub nearest-sink-slack : worstSlack nearerSink (plan nearerSink) ≡ negℤ (pos 40)
   pub nearest-sink-wire : wireLength nearerSink (plan nearerSink) ≡ 21
+  -- 02, request 3: in A sinks 3 and 2 go in first, under branch point 4. The least slacks under the root, 2, 3 and 4, then the worst slacks if sink 1 splits the
+  -- edge to 2, 3 or 4: it splits the first
+  pub A-gathered : map (leastUnder netA 1) (0 ∷ (2 ∷ (3 ∷ (4 ∷ [])))) ≡ pos 10 ∷ (pos 20 ∷ (pos 10 ∷ (pos 10 ∷ [])))
+  pub A-tried : map (worstWith netA 1) (2 ∷ (3 ∷ (4 ∷ []))) ≡ pos 0 ∷ (negℤ (pos 10) ∷ (negℤ (pos 10) ∷ []))
+  -- the whole tree of A: the least slacks under 0 to 5
+  pub A-gathered-all : map (leastUnder netA 2) (0 ∷ (1 ∷ (2 ∷ (3 ∷ (4 ∷ (5 ∷ [])))))) ≡ pos 0 ∷ (pos 40 ∷ (pos 0 ∷ (pos 10 ∷ (pos 0 ∷ (pos 0 ∷ [])))))
+  -- three sinks at the root: "all edges tie for sink 3", the one above branch point 4 too
+  pub three-tried : map (worstWith threeAtRoot 1) (1 ∷ (2 ∷ (4 ∷ []))) ≡ negℤ (pos 40) ∷ (negℤ (pos 40) ∷ (negℤ (pos 40) ∷ []))
   -- "The median of 0,0 and 4,6 and 10,0 is 4,0."
   pub median-of-three : medianPoint (at (pos 0) (pos 0)) (at (pos 4) (pos 6)) (at (pos 10) (pos 0)) ≡ at (pos 4) (pos 0)
   -- "n = 3, parents of 1 to 5 are 0, 4, 5, 5, 4: 10,2,5": the counts are right, vertex 2 is not reached, so the tree is not legal

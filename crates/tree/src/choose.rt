@@ -9,9 +9,10 @@ ghost use lib.IntN.{pos};
 ghost use lib.Signed.{ltZ};
 ghost use Rattle.quantities.specs.Distance.{distance};
 ghost use Rattle.quantities.specs.Reach.{Within, PointWithin, timeReach};
+ghost use Rattle.tree.specs.Net.{Net, size};
 ghost use Rattle.tree.specs.Limits.{positionLimit};
 ghost use Rattle.tree.specs.Arrays.{pointAt};
-ghost use Rattle.tree.specs.Insertion.{score};
+ghost use Rattle.tree.specs.SmallestSlack.{InTree, Gathered, score, worstWith};
 ghost use Rattle.tree.specs.Choice.{farAt, goesBefore, firstOf, edgeTo, BestEnd, BestEdge, SinkEnd, AnyEnd};
 use crate::measure::point;
 use quantities::length::Length;
@@ -25,12 +26,16 @@ pub struct Edge {
     pub far: Length,
 }
 
-// What the worst slack becomes if the edge to v is split: the new sink is never worse off than the worst under v.
-fn score_of(slacks: &[i64], branch: Time, v: usize) -> Time
+// What the worst slack becomes if the edge to v is split, from the gathered numbers: the new sink is never worse off than the worst under v.
+pub fn score_of(slacks: &[i64], branch: Time, v: usize) -> Time
     requires { ⌜ (v < length (now slacks)) × Within timeReach (getD (now slacks) v (pos 0)) × Within timeReach (branch .0) ⌝ }
-    ensures { λ r. ⌜ r .0 ≡ score (branch .0) (now (slacks .entry)) v ⌝ }
+    ensures number { λ r. ⌜ r .0 ≡ score (branch .0) (now (slacks .entry)) v ⌝ }
+    ensures worst { λ r. ⌜ ((N : Net) (j : ℕ) → 1 ≤ N .branch → branch .0 ≡ pos (N .branch) → suc j < size N → Gathered N j (now (slacks .entry)) → InTree N j v → r .0 ≡ worstWith N j v) ⌝ }
 {
-    Time::of(slacks[0]).least(Time::of(slacks[v]).minus(branch))
+    let worst = Time::of(slacks[0]);
+    let under = Time::of(slacks[v]);
+    let room = under.minus(branch);
+    worst.least(room)
 }
 
 // How far vertices u and v are from each other.

@@ -10,9 +10,9 @@ ghost use Rattle.quantities.specs.Order.{minℤ};
 ghost use Rattle.quantities.specs.Reach.{Within, termReach, timeReach};
 ghost use Rattle.tree.specs.Lists.{count};
 ghost use Rattle.tree.specs.Net.{Net};
-ghost use Rattle.tree.specs.Planning.{order};
 ghost use Rattle.tree.specs.Arrays.{Chained};
-ghost use Rattle.tree.specs.Insertion.{Ready, InTree, Inserted, Leveled, Gathered, SplitsNext};
+ghost use Rattle.tree.specs.SmallestSlack.{nextSink, InTree, Gathered};
+ghost use Rattle.tree.specs.Insertion.{Ready, Leveled, HoldsSoFar, SplitsNext};
 ghost use Rattle.tree.specs.Regathering.{Deepens, Sinks, Lowered, Falling, Raised, isBehind, wayUp};
 use quantities::time::Time;
 
@@ -143,9 +143,10 @@ pub fn regather(
     v: usize,
     s: usize,
 )
-    requires { ⌜ ((N : Net) × (us : List ℕ) × (Ready N (branch .0) n (now own) × Inserted N k (now parents) us × Chained (2 * k + 1) us (now below) × Leveled N k (now levels) × Gathered N k (now slacks) × (s ≡ getD (order N) (suc k) 0) × InTree N k v)) ⌝ }
+    requires { ⌜ ((N : Net) × (Ready N (branch .0) n (now own) × HoldsSoFar N k (now parents) (now below) (now levels) (now slacks) × (s ≡ nextSink N k) × InTree N k v)) ⌝ }
     requires { ⌜ (suc k < n) × (2 * n ≤ length (now parents)) × (2 * n ≤ length (now below)) × (2 * n ≤ length (now levels)) × (2 * n ≤ length (now slacks)) ⌝ }
-    ensures { λ r. ⌜ ((N : Net) (us : List ℕ) → Ready N (branch .0) n (now (own .entry)) → Inserted N k (now (parents .entry)) us → Chained (2 * k + 1) us (now (below .entry)) → Leveled N k (now (levels .entry)) → Gathered N k (now (slacks .entry)) → s ≡ getD (order N) (suc k) 0 → SplitsNext N k v → Leveled N (suc k) (now (levels .exit)) × Gathered N (suc k) (now (slacks .exit))) ⌝ }
+    ensures leveled { λ r. ⌜ ((N : Net) → Ready N (branch .0) n (now (own .entry)) → HoldsSoFar N k (now (parents .entry)) (now (below .entry)) (now (levels .entry)) (now (slacks .entry)) → s ≡ nextSink N k → SplitsNext N k v → Leveled N (suc k) (now (levels .exit))) ⌝ }
+    ensures gathered { λ r. ⌜ ((N : Net) → Ready N (branch .0) n (now (own .entry)) → HoldsSoFar N k (now (parents .entry)) (now (below .entry)) (now (levels .entry)) (now (slacks .entry)) → s ≡ nextSink N k → SplitsNext N k v → Gathered N (suc k) (now (slacks .exit))) ⌝ }
 {
     let left = levels[v] - 1;
     let least = Time::of(slacks[v]).minus(branch);

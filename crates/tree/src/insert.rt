@@ -1,15 +1,14 @@
 // Steps 2 and 3 of planning: the sinks go in one after another, each by splitting the edge that leaves the largest worst slack.
 ghost use mathlib.Core.Path.{_≡_};
 ghost use Prim.Native.Nat.{ℕ, suc, _+_, _*_, _-_, _≤_, _<_};
-ghost use mathlib.Core.List.{List};
 ghost use lib.ListN.{length, getD, set};
 ghost use lib.IntN.{pos};
 ghost use Rattle.tree.specs.Net.{Net};
 ghost use Rattle.tree.specs.Measures.{slack};
 ghost use Rattle.tree.specs.Planning.{tieRule, planParents};
 ghost use Rattle.tree.specs.Settling.{planBy};
-ghost use Rattle.tree.specs.Arrays.{parentsOf, LeavesUp, Below, Chained};
-ghost use Rattle.tree.specs.Insertion.{Ready, Lined, Placed, Inserted, Leveled, Gathered};
+ghost use Rattle.tree.specs.Arrays.{parentsOf, LeavesUp, Below};
+ghost use Rattle.tree.specs.Insertion.{Ready, Lined, Placed, HoldsSoFar};
 use crate::choose::choose;
 use crate::gather::regather;
 use crate::places::clear;
@@ -41,9 +40,9 @@ fn insert_next(
     parents: &mut [usize],
     below: &mut [usize],
 )
-    requires { ⌜ ((N : Net) × (us : List ℕ) × (Ready N (branch .0) n (now own) × Lined N n (now sinks) × Placed N n (now xs) (now ys) × Inserted N k (now parents) us × Chained (2 * k + 1) us (now below) × Leveled N k (now levels) × Gathered N k (now slacks))) ⌝ }
+    requires { ⌜ ((N : Net) × (Ready N (branch .0) n (now own) × Lined N n (now sinks) × Placed N n (now xs) (now ys) × HoldsSoFar N k (now parents) (now below) (now levels) (now slacks))) ⌝ }
     requires { ⌜ (suc k < n) × (2 * n ≤ length (now levels)) × (2 * n ≤ length (now slacks)) × (2 * n ≤ length (now parents)) × (2 * n ≤ length (now below)) ⌝ }
-    ensures { λ r. ⌜ ((N : Net) (us : List ℕ) → Ready N (branch .0) n (now (own .entry)) → Lined N n (now (sinks .entry)) → Placed N n (now (xs .entry)) (now (ys .entry)) → Inserted N k (now (parents .entry)) us → Chained (2 * k + 1) us (now (below .entry)) → Leveled N k (now (levels .entry)) → Gathered N k (now (slacks .entry)) → (us′ : List ℕ) × Inserted N (suc k) (now (parents .exit)) us′ × Chained (2 * suc k + 1) us′ (now (below .exit)) × Leveled N (suc k) (now (levels .exit)) × Gathered N (suc k) (now (slacks .exit))) ⌝ }
+    ensures { λ r. ⌜ ((N : Net) → Ready N (branch .0) n (now (own .entry)) → Lined N n (now (sinks .entry)) → Placed N n (now (xs .entry)) (now (ys .entry)) → HoldsSoFar N k (now (parents .entry)) (now (below .entry)) (now (levels .entry)) (now (slacks .entry)) → HoldsSoFar N (suc k) (now (parents .exit)) (now (below .exit)) (now (levels .exit)) (now (slacks .exit))) ⌝ }
 {
     let s = sinks[k + 1];
     let v = choose(n, k, xs, ys, sinks, slacks, branch, s);

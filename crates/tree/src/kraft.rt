@@ -9,7 +9,7 @@ ghost use Rattle.quantities.specs.Reach.{Within, termReach};
 ghost use Rattle.tree.specs.Net.{Net, ownSlacks};
 ghost use Rattle.tree.specs.Kraft.{IsKraftMaximum};
 ghost use Rattle.tree.specs.Arrays.{netOf, HoldsNet};
-ghost use Rattle.tree.specs.Insertion.{sinksIn};
+ghost use Rattle.tree.specs.SmallestSlack.{sinksIn};
 ghost use Rattle.tree.specs.SinkSplits.{Sorted, Kept, LargestAt, absent, worstIfSplit};
 use crate::header::Header;
 use crate::order::order_sinks;

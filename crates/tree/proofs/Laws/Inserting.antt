@@ -25,12 +25,13 @@ use Rattle.tree.specs.Planning.{order, unsettled, split, far, tieRule, w
 use Rattle.tree.specs.Settling.{planBy}
 use Rattle.tree.specs.Limits.{positionLimit, InRange}
 use Rattle.tree.specs.Arrays.{pointAt, parentsOf, LeavesUp, Below, Chained}
-use Rattle.tree.specs.Insertion.{Ready, Lined, Placed, Inserted, Leveled, Gathered, SplitsNext, InTree, treeAfter, score}
+use Rattle.tree.specs.SmallestSlack.{Gathered, InTree, treeAfter, score, nextSink}
+use Rattle.tree.specs.Insertion.{Ready, Lined, Placed, Inserted, Leveled, SplitsNext}
 use Rattle.tree.specs.Choice.{farAt, BestEnd, SinkEnd, AnyEnd}
 use Rattle.tree.proofs.Laws.Sums.{delta-self, delta-ne, equal?, down-in, down-low, down-once}
 use Rattle.tree.proofs.Laws.AnySplit.{meet}
 use Rattle.tree.proofs.Laws.Arrays.{parents-length, parents-at}
-use Rattle.tree.proofs.Laws.Gathering.{gathered-if, gathered-within}
+use Rattle.tree.proofs.Laws.Gathering.{gathered-if, gathered-sink, gathered-score, gathered-within}
 use Rattle.tree.proofs.Laws.Growing.{Inner, parent-inner, hops-up}
 use Rattle.tree.proofs.Laws.Insertion.{Least}
 use Rattle.tree.proofs.Laws.KraftSums.{depthIn}
@@ -46,7 +47,7 @@ use Rattle.tree.proofs.Laws.TreeAfter.{t, inserted-count, to-vertex, fr
 use Rattle.tree.proofs.Laws.Upward.{SplitAt, grown-up, putIn, put-in, chained-put}
 use Rattle.tree.proofs.Laws.Walks.{hops, hops-zero}
 use Rattle.tree.proofs.Laws.WorstAfter.{LeastBelow, least-one, before}
-use Rattle.tree.proofs.Laws.Steps.{newestFirst, newest-count, newest-each, newest-member, inserted, nextSink, parents-next, order-in, next-fresh, inserted-in}
+use Rattle.tree.proofs.Laws.Steps.{newestFirst, newest-count, newest-each, newest-member, inserted, parents-next, order-in, next-fresh, inserted-in}
 
 -- ---- the first sink
 
@@ -234,7 +235,7 @@ module _ {N : Net} {c : ℤ} {n : ℕ} {own xs ys : List ℤ} {sinks : List ℕ}
   end-within v h = let w : Within termReach (getD slacks v (pos 0)) = gathered-within N (R .in-range) k low G v (from-vertex N a1 k low v (end-old v h)) in omega (arith, whole)
 
   score-is : (v : ℕ) → Old v → worstAfter N (inserted N k) k Q next v ≡ score c slacks v
-  score-is v h = enlarged N a1 k low kS v ∙ sym (G .tries kS v (from-vertex N a1 k low v h)) ∙ ap (λ (z : ℤ). score z slacks v) (sym (R .branch-is))
+  score-is v h = enlarged N a1 k low kS v ∙ sym (gathered-score N a1 k low G kS v h) ∙ ap (λ (z : ℤ). score z slacks v) (sym (R .branch-is))
 
   -- the lower end that the search finds is that of the chosen edge
   module _ {s v : ℕ} (s-is : s ≡ getD sinks (k + 1) 0) (B : BestEnd (AnyEnd sinks (suc k) n k) (score c slacks) (farAt n xs ys s) v) where
@@ -480,4 +481,4 @@ module _ {N : Net} {c : ℤ} {n : ℕ} {own : List ℤ} (R : Ready N c n own) {k
 
   module _ {slacks : List ℤ} (G : Gathered N k slacks) where
     pub last-slacks : (s : ℕ) → 1 ≤ s → s ≤ n → getD slacks s (pos 0) ≡ slack N (planBy tieRule N) s
-    last-slacks s s1 sn = G .sinks-are s (omega (arith, in-all s s1 (omega (arith, R .size-is)), inserted-count N z1 k last-in s)) ∙ slack-end s s1 (omega (arith, R .size-is))
+    last-slacks s s1 sn = gathered-sink N z1 k last-in G s (in-all s s1 (omega (arith, R .size-is))) ∙ slack-end s s1 (omega (arith, R .size-is))

@@ -17,10 +17,11 @@ use Rattle.tree.specs.Net.{Net, size, ownSlack}
 use Rattle.tree.specs.Tree.{Tree, parentOf, ancestor}
 use Rattle.tree.specs.Measures.{pathUp, worstOver}
 use Rattle.tree.specs.Planning.{order, unsettled, split, tieRule, parentsAfter}
-use Rattle.tree.specs.Insertion.{Ready, Inserted, Leveled, Gathered, SplitsNext, InTree, sinksIn, score}
+use Rattle.tree.specs.SmallestSlack.{Gathered, InTree, sinksIn, score, nextSink}
+use Rattle.tree.specs.Insertion.{Ready, Inserted, Leveled, SplitsNext}
 use Rattle.tree.specs.Regathering.{Sinks, Lowered, Falling, Raised, wayUp}
 use Rattle.tree.proofs.Laws.AnySplit.{meet, depth-any}
-use Rattle.tree.proofs.Laws.Gathering.{gathered-if, gathered-within}
+use Rattle.tree.proofs.Laws.Gathering.{gathered-if, gathered-least, gathered-score, gathered-within}
 use Rattle.tree.proofs.Laws.Growing.{PartTree, Split, Inner, parent-inner, inner-up, inner-reach, hops-up, split-tree}
 use Rattle.tree.proofs.Laws.Insertion.{Grown, splits}
 use Rattle.tree.proofs.Laws.KraftSums.{depthIn}
@@ -28,9 +29,9 @@ use Rattle.tree.proofs.Laws.LeastAfter.{at-above, at-others, at-branch,
 use Rattle.tree.proofs.Laws.NetArrays.{own-within}
 use Rattle.tree.proofs.Laws.Scores.{new-no-worse}
 use Rattle.tree.proofs.Laws.SinkEdge.{in-pos, meet-self}
-use Rattle.tree.proofs.Laws.Steps.{inserted, nextSink, order-in, next-fresh, inserted-rising, inserted-in}
+use Rattle.tree.proofs.Laws.Steps.{inserted, order-in, next-fresh, inserted-rising, inserted-in}
 use Rattle.tree.proofs.Laws.Sums.{delta-self, delta-ne, equal?, down-in, down-low, down-once}
-use Rattle.tree.proofs.Laws.TreeAfter.{g, t, to-vertex, from-vertex, vertex-in, path-length, from-under, parent-is}
+use Rattle.tree.proofs.Laws.TreeAfter.{g, t, to-vertex, from-vertex, vertex-in, path-length, enlarged-all, parent-is}
 use Rattle.tree.proofs.Laws.Under.{path-meet, path-hops, meet-root, meet-add, under-step, meet-one, meet-same, under-sink, path-inner, climbs, under-from, above-strict, deep}
 use Rattle.tree.proofs.Laws.Walks.{hops, hops-le, hops-zero}
 use Rattle.tree.proofs.Laws.WorstAfter.{LeastBelow, before, new-depth, after-old, after-new}
@@ -319,7 +320,7 @@ module _ {N : Net} {c : ℤ} {n : ℕ} {own : List ℤ} (R : Ready N c n own) {k
         root-new h = in-pos T 0 h refl
 
         under : (v : ℕ) → Old v → LeastBelow p F v (inserted N k) (before N k (parentsAfter tieRule N k)) (getD slacks v (pos 0))
-        under v h = from-under N r1 k kN v (getD slacks v (pos 0)) h (G .least v (from-vertex N r1 k kN v h))
+        under v h = gathered-least N r1 k kN G v h
 
         -- numbers fall on the way up
         same : (v : ℕ) → Old v → meet p F x v ≡ 0 → getD ss₂ v (pos 0) ≡ getD slacks v (pos 0)
@@ -471,4 +472,4 @@ module _ {N : Net} {c : ℤ} {n : ℕ} {own : List ℤ} (R : Ready N c n own) {k
                 gathered-if N r1 (suc k) kT ss₄
                 (λ v h. subst (λ (Q : List ℕ). LeastBelow (parentOf Q) (2 * suc k + 1) v (inserted N (suc k)) (before N (suc k) Q) (getD ss₄ v (pos 0))) (sym (X .1))
                 (subst (λ (i : ℕ). LeastBelow p′ i v (inserted N (suc k)) f′ (getD ss₄ v (pos 0))) fuel (each v (new v (from-vertex N r1 (suc k) kT v h)))))
-                (worst ∙ ap (λ (z : ℤ). score z slacks x) cost-is ∙ G .tries kT x (X .0) ∙ ap (λ (Q : List ℕ). worstOver N (unsettled N Q) (sinksIn N (suc k))) (sym (X .1)))
+                (worst ∙ ap (λ (z : ℤ). score z slacks x) cost-is ∙ gathered-score N r1 k kN G kT x hx ∙ enlarged-all N r1 k kN kT x ∙ ap (λ (Q : List ℕ). worstOver N (unsettled N Q) (sinksIn N (suc k))) (sym (X .1)))

@@ -16,14 +16,14 @@ use Rattle.tree.specs.Kraft.{IsKraftMaximum}
 use Rattle.tree.specs.Planning.{order}
 use Rattle.tree.specs.Limits.{sinkLimit}
 use Rattle.tree.specs.Arrays.{netOf, HoldsNet}
-use Rattle.tree.specs.Insertion.{sinksIn}
+use Rattle.tree.specs.SmallestSlack.{sinksIn, nextSink}
 use Rattle.tree.proofs.Laws.NetArrays.{few-sinks, line-at, line-in}
 use Rattle.tree.specs.SinkSplits.{Sorted, Kept, LargestAt, absent, worstIfSplit}
 use Rattle.tree.proofs.Laws.Sums.{down-in, down-once}
 use Rattle.tree.proofs.Laws.LegalTrees.{somewhere}
 use Rattle.tree.proofs.Laws.Planning.{count-append, order-count, order-length, take-all}
 use Rattle.tree.proofs.Laws.Settling.{range-count}
-use Rattle.tree.proofs.Laws.Steps.{newest-count, inserted, nextSink, order-in, next-fresh, inserted-rising}
+use Rattle.tree.proofs.Laws.Steps.{newest-count, inserted, order-in, next-fresh, inserted-rising}
 use Rattle.tree.proofs.Laws.Arrays.{size-is}
 use Rattle.tree.proofs.Laws.Measuring.{branch-is}
 use Rattle.tree.proofs.Laws.SinkSplits.{kraft-bag, kept-first, kept-bag, slack-place, worst-meets, roomiest-in, kept-split}

@@ -49,6 +49,6 @@ module _ (N : Net) (c1 : 1 ≤ N .branch) (n1 : 1 ≤ size N) where
     settling = λ P L s p q. settling N P L s p q;
   }
 
--- "The tieRule t is always reachable."
+-- "The lowest t is always reachable."
 pub lowest-need-reached : (N : Net) → InRange N → (R : Tree) × (LegalTree N R × (negℤ (pos needLimit) ≤ℤ worstSlack N R))
 lowest-need-reached N R = (planBy tieRule N, (plan-legal N (R .branch .0) (R .sinks .0) tieRule, slack-range tieRule N R .0))

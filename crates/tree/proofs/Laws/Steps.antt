@@ -13,6 +13,7 @@ use Rattle.tree.specs.Lists.{count}
 use Rattle.tree.specs.Net.{Net, size, ownSlack}
 use Rattle.tree.specs.Tree.{parentOf}
 use Rattle.tree.specs.Planning.{TieRule, order, split, chosen, insertAll, parentsAfter}
+use Rattle.tree.specs.SmallestSlack.{nextSink}
 use Rattle.tree.proofs.Laws.Sums.{delta-self, delta-ne, equal?, down-in, down-once}
 use Rattle.tree.proofs.Laws.LegalTrees.{somewhere}
 use Rattle.tree.proofs.Laws.Insertion.{Grown, start}
@@ -85,12 +86,9 @@ onto-newest (x ∷ l) (suc j) h =
     ∙ onto-last (take j l) (getD l j 0) (x ∷ [])
     ∙ ap (λ r. getD l j 0 ∷ r) (onto-newest (x ∷ l) j (omega arith))
 
--- the sinks that are in after j insertions, and the next one
+-- the sinks that are in after j insertions
 abbrev pub inserted : Net → ℕ → List ℕ
 inserted N j = newestFirst (order N) (suc j)
-
-abbrev pub nextSink : Net → ℕ → ℕ
-nextSink N j = getD (order N) (suc j) 0
 
 module _ (tie : TieRule) (N : Net) where
   pub parents-next : (j : ℕ) → suc j < size N

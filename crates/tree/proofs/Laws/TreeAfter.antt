@@ -1,18 +1,21 @@
 -- The tree after k insertions: its vertices, slacks and paths, by the laws' terms and by the definitions'. Assumes nothing.
 use Prim.Native.Nat.{ℕ, suc, _+_, _*_, _-_, _≤_, _<_}
 use mathlib.Core.Path.{_≡_, refl, sym, ap, _∙_, subst}
+use mathlib.Core.Bool.{Bool, true, false, cond}
 use mathlib.Core.Logic.{_≢_, _⊎_, inl, inr}
 use mathlib.Core.List.{List, [], _∷_, map}
 use native.Mathlib.Omega.{arith}
+use borrow.Author.Tests.{ltb-true, ltb-false, lt-ltb}
 use lib.ListN.{length, getD, take, drop, take-append-drop, length-take}
 use lib.IntN.{ℤ}
 use lib.Signed.{_≤ℤ_}
-use Rattle.tree.specs.Lists.{count, down, least}
+use Rattle.tree.specs.Lists.{delta, count, down, least}
 use Rattle.tree.specs.Net.{Net, size, ownSlack}
-use Rattle.tree.specs.Tree.{parentOf}
+use Rattle.tree.specs.Tree.{Tree, parentOf}
 use Rattle.tree.specs.Measures.{path, slack, worstOver}
 use Rattle.tree.specs.Planning.{order, unsettled, split, tieRule, worstAfter, parentsAfter}
-use Rattle.tree.specs.Insertion.{Inserted, LeastUnder, InTree, sinksIn, treeAfter}
+use Rattle.tree.specs.SmallestSlack.{treeAfter, sinksIn, nextSink, InTree, isUnder, sinksUnder, leastUnder, worstWith}
+use Rattle.tree.specs.Insertion.{Inserted}
 use Rattle.tree.proofs.Laws.Arrays.{parents-at}
 use Rattle.tree.proofs.Laws.AnySplit.{meet}
 use Rattle.tree.proofs.Laws.Growing.{PartTree}
@@ -20,9 +23,9 @@ use Rattle.tree.proofs.Laws.Insertion.{Least, Grown}
 use Rattle.tree.proofs.Laws.Planning.{least-law, count-append, order-length}
 use Rattle.tree.proofs.Laws.Scores.{before-is}
 use Rattle.tree.proofs.Laws.SinkEdge.{in-pos}
-use Rattle.tree.proofs.Laws.Steps.{newest-count, inserted, nextSink, inserted-in, grown-at}
-use Rattle.tree.proofs.Laws.Sums.{equal?, down-in}
-use Rattle.tree.proofs.Laws.Under.{path-meet, path-hops, meet-add}
+use Rattle.tree.proofs.Laws.Steps.{newest-count, inserted, inserted-in, grown-at}
+use Rattle.tree.proofs.Laws.Sums.{delta-self, delta-ne, equal?, down-in}
+use Rattle.tree.proofs.Laws.Under.{path-meet, path-hops, meet-add, some-sink}
 use Rattle.tree.proofs.Laws.Walks.{hops, hops-add}
 use Rattle.tree.proofs.Laws.WorstAfter.{LeastBelow, least-one, before}
 
@@ -39,6 +42,39 @@ least-same f g l r w e h m = record {
   in-list = omega (arith, e (m .at), m .in-list);
   is = sym (h (m .at) (omega (arith, e (m .at), m .in-list))) ∙ m .is;
 }
+
+-- ---- the sinks at or under a vertex, picked out of a list
+
+pub under-in : (T : Tree) (v : ℕ) (l : List ℕ) (y : ℕ) → count y (sinksUnder T v l) ≢ 0 → (count y l ≢ 0) × (count v (0 ∷ path T y) ≢ 0)
+under-in T v [] y h = absurd (h refl)
+under-in T v (s ∷ l) y h = go (under-in T v l y) (isUnder T v s) refl h (equal? y s)
+  where
+    go : (count y (sinksUnder T v l) ≢ 0 → (count y l ≢ 0) × (count v (0 ∷ path T y) ≢ 0)) → (b : Bool) → isUnder T v s ≡ b → count y (cond b (s ∷ sinksUnder T v l) (sinksUnder T v l)) ≢ 0
+        → (y ≡ s) ⊎ (y ≢ s) → (count y (s ∷ l) ≢ 0) × (count v (0 ∷ path T y) ≢ 0)
+    go ih true e q (inl i) =
+        let some : 0 < count v (0 ∷ path T s) = ltb-true 0 _ e in
+        (omega (arith, ap (delta y) (sym i), delta-self y), subst (λ (z : ℕ). count v (0 ∷ path T z) ≢ 0) (sym i) (omega arith))
+    go ih true e q (inr d) = let u : (count y l ≢ 0) × (count v (0 ∷ path T y) ≢ 0) = ih (omega (arith, delta-ne y s d)) in (omega (arith, u .0), u .1)
+    go ih false e q d = let u : (count y l ≢ 0) × (count v (0 ∷ path T y) ≢ 0) = ih q in (omega (arith, u .0), u .1)
+
+pub in-under : (T : Tree) (v : ℕ) (l : List ℕ) (y : ℕ) → count y l ≢ 0 → count v (0 ∷ path T y) ≢ 0 → count y (sinksUnder T v l) ≢ 0
+in-under T v [] y h q = h
+in-under T v (s ∷ l) y h q = go (λ m. in-under T v l y m q) (isUnder T v s) refl (equal? y s)
+  where
+    go : (count y l ≢ 0 → count y (sinksUnder T v l) ≢ 0) → (b : Bool) → isUnder T v s ≡ b → (y ≡ s) ⊎ (y ≢ s) → count y (cond b (s ∷ sinksUnder T v l) (sinksUnder T v l)) ≢ 0
+    go ih true e (inl i) = omega (arith, ap (delta y) (sym i), delta-self y)
+    go ih true e (inr d) = omega (arith, delta-ne y s d, ih (omega (arith, delta-ne y s d)))
+    go ih false e (inl i) = absurd (omega (arith, subst (λ (z : ℕ). count v (0 ∷ path T z) ≢ 0) i q, ltb-false 0 (count v (0 ∷ path T s)) e))
+    go ih false e (inr d) = ih (omega (arith, delta-ne y s d))
+
+-- all are under the root
+pub all-under : (T : Tree) (l : List ℕ) → sinksUnder T 0 l ≡ l
+all-under T [] = refl
+all-under T (s ∷ l) = ap (λ (b : Bool). cond b (s ∷ sinksUnder T 0 l) (sinksUnder T 0 l)) (lt-ltb 0 (count 0 (0 ∷ path T s)) (omega arith)) ∙ ap (λ (r : List ℕ). s ∷ r) (all-under T l)
+
+pub some-length : (l : List ℕ) (y : ℕ) → count y l ≢ 0 → 0 < length l
+some-length [] y h = absurd (h refl)
+some-length (x ∷ l) y h = omega arith
 
 -- ---- the tree
 
@@ -96,41 +132,68 @@ module _ (N : Net) (c1 : 0 < N .branch) (k : ℕ) (kN : k < size N) where
       least-same (slack N (treeAfter N k)) (before N k P) (sinksIn N k) S _ inserted-count slack-is
       (least-of (slack N (treeAfter N k)) (sinksIn N k) (omega (arith, length-take (suc k) (order N), order-length N)))
 
-  -- the worst slack of the enlarged tree, over the sinks as insertion has them and as the definitions have them
-  pub enlarged : (kS : suc k < size N) (v : ℕ) → worstAfter N S k P (nextSink N k) v ≡ worstOver N (unsettled N (split P (size N) k (nextSink N k) v)) (sinksIn N (suc k))
-  enlarged kS v =
-      least-one (sinksIn N (suc k)) f _ _ (least-same f f (inserted N (suc k)) (sinksIn N (suc k)) _ (λ y. sym (inserted-next y)) (λ y m. refl) (least-law f (nextSink N k) S))
-      (least-of f (sinksIn N (suc k)) (omega (arith, length-take (suc (suc k)) (order N), order-length N)))
-    where
-      f : ℕ → ℤ
-      f = slack N (unsettled N (split P (size N) k (nextSink N k) v))
+  -- the enlarged tree's worst slack, over the sinks as insertion has them, and over all that are in then
+  module _ (kS : suc k < size N) (v : ℕ) where
+    abbrev f : ℕ → ℤ
+    f = slack N (unsettled N (split P (size N) k (nextSink N k) v))
 
-      inserted-next : (y : ℕ) → count y (inserted N (suc k)) ≡ count y (sinksIn N (suc k))
-      inserted-next y =
-          omega (arith, newest-count (order N) y (suc (suc k)) (omega (arith, order-length N)), count-append y (take (suc (suc k)) (order N)) (drop (suc (suc k)) (order N)), ap (count y) (take-append-drop (suc (suc k)) (order N)))
+    pub enlarged : worstAfter N S k P (nextSink N k) v ≡ worstWith N k v
+    enlarged = least-one (nextSink N k ∷ S) f _ _ (least-law f (nextSink N k) S)
+        (least-same f f (nextSink N k ∷ sinksIn N k) (nextSink N k ∷ S) _ (λ y. omega (arith, inserted-count y)) (λ y m. refl) (least-law f (nextSink N k) (sinksIn N k)))
 
-  -- ---- what is gathered, by the laws' terms and by the definitions'
+    pub enlarged-all : worstWith N k v ≡ worstOver N (unsettled N (split P (size N) k (nextSink N k) v)) (sinksIn N (suc k))
+    enlarged-all =
+        sym enlarged
+        ∙ least-one (sinksIn N (suc k)) f _ _ (least-same f f (inserted N (suc k)) (sinksIn N (suc k)) _ (λ y. sym (inserted-next y)) (λ y m. refl) (least-law f (nextSink N k) S))
+        (least-of f (sinksIn N (suc k)) (omega (arith, length-take (suc (suc k)) (order N), order-length N)))
+      where
+        inserted-next : (y : ℕ) → count y (inserted N (suc k)) ≡ count y (sinksIn N (suc k))
+        inserted-next y =
+            omega (arith, newest-count (order N) y (suc (suc k)) (omega (arith, order-length N)), count-append y (take (suc (suc k)) (order N)) (drop (suc (suc k)) (order N)), ap (count y) (take-append-drop (suc (suc k)) (order N)))
 
-  pub to-under : (v : ℕ) (w : ℤ) → Vertex v → LeastBelow (parentOf P) (2 * k + 1) v S (before N k P) w → LeastUnder N (treeAfter N k) (sinksIn N k) v w
-  to-under v w h l = record {
-    below = λ s m q. let i : count s S ≢ 0 = omega (arith, inserted-count s) in
-        subst (λ (x : ℤ). w ≤ℤ x) (sym (slack-is s i)) (l .below s i (λ e. q (on-path v s (in-pos t v h) (omega arith) ∙ e)));
-    at = l .at;
-    in-list = omega (arith, inserted-count (l .at), l .in-list);
-    under = λ e. l .under (sym (on-path v (l .at) (in-pos t v h) (omega (arith, l .in-list))) ∙ e);
-    is = slack-is (l .at) (l .in-list) ∙ l .is;
-  }
+  -- ---- the least slack under a vertex, by the laws' terms and by the definitions'
 
-  pub from-under : (v : ℕ) (w : ℤ) → Vertex v → LeastUnder N (treeAfter N k) (sinksIn N k) v w → LeastBelow (parentOf P) (2 * k + 1) v S (before N k P) w
-  from-under v w h l =
-      let i : count (l .at) S ≢ 0 = omega (arith, inserted-count (l .at), l .in-list) in
-      record {
-        below = λ s m q. subst (λ (x : ℤ). w ≤ℤ x) (slack-is s m) (l .below s (omega (arith, inserted-count s)) (λ e. q (sym (on-path v s (in-pos t v h) (omega arith)) ∙ e)));
-        at = l .at;
-        in-list = i;
-        under = λ e. l .under (on-path v (l .at) (in-pos t v h) (omega arith) ∙ e);
-        is = sym (slack-is (l .at) i) ∙ l .is;
-      }
+  pub worst-root : leastUnder N k 0 ≡ worstOver N (treeAfter N k) (sinksIn N k)
+  worst-root = ap (worstOver N (treeAfter N k)) (all-under (treeAfter N k) (sinksIn N k))
+
+  module _ (v : ℕ) (h : Vertex v) where
+    -- the sinks at or under v are those that meet it on their way up
+    meets : (y : ℕ) → count y (sinksUnder (treeAfter N k) v (sinksIn N k)) ≢ 0 → (count y S ≢ 0) × (meet (parentOf P) (2 * k + 1) v y ≢ 0)
+    meets y q =
+        let u : (count y (sinksIn N k) ≢ 0) × (count v (0 ∷ path (treeAfter N k) y) ≢ 0) = under-in (treeAfter N k) v (sinksIn N k) y q in
+        let m : count y S ≢ 0 = omega (arith, inserted-count y, u .0) in
+        (m, omega (arith, u .1, delta-ne v 0 (in-pos t v h), on-path v y (in-pos t v h) (omega arith)))
+
+    met : (y : ℕ) → count y S ≢ 0 → meet (parentOf P) (2 * k + 1) v y ≢ 0 → count y (sinksUnder (treeAfter N k) v (sinksIn N k)) ≢ 0
+    met y m q = in-under (treeAfter N k) v (sinksIn N k) y (omega (arith, inserted-count y)) (omega (arith, on-path v y (in-pos t v h) (omega arith)))
+
+    least-met : (y : ℕ) → count y S ≢ 0 → meet (parentOf P) (2 * k + 1) v y ≢ 0 → Least (sinksUnder (treeAfter N k) v (sinksIn N k)) (slack N (treeAfter N k)) (leastUnder N k v)
+    least-met y m q = least-of (slack N (treeAfter N k)) (sinksUnder (treeAfter N k) v (sinksIn N k)) (some-length (sinksUnder (treeAfter N k) v (sinksIn N k)) y (met y m q))
+
+    pub least-under : (w : ℤ) → LeastBelow (parentOf P) (2 * k + 1) v S (before N k P) w → w ≡ leastUnder N k v
+    least-under w l =
+        least-one (sinksUnder (treeAfter N k) v (sinksIn N k)) (slack N (treeAfter N k)) w _
+        record {
+          below = λ y q. let u : (count y S ≢ 0) × (meet (parentOf P) (2 * k + 1) v y ≢ 0) = meets y q in subst (λ (x : ℤ). w ≤ℤ x) (sym (slack-is y (u .0))) (l .below y (u .0) (u .1));
+          at = l .at;
+          in-list = met (l .at) (l .in-list) (l .under);
+          is = slack-is (l .at) (l .in-list) ∙ l .is;
+        }
+        (least-met (l .at) (l .in-list) (l .under))
+
+    -- some sink is under v
+    pub under-least : LeastBelow (parentOf P) (2 * k + 1) v S (before N k P) (leastUnder N k v)
+    under-least =
+        let y : (y : ℕ) × (count y S ≢ 0) × (meet (parentOf P) (2 * k + 1) v y ≢ 0) = some-sink t v h in
+        let l : Least (sinksUnder (treeAfter N k) v (sinksIn N k)) (slack N (treeAfter N k)) (leastUnder N k v) = least-met (y .0) (y .1) (y .2) in
+        let u : (count (l .at) S ≢ 0) × (meet (parentOf P) (2 * k + 1) v (l .at) ≢ 0) = meets (l .at) (l .in-list) in
+        record {
+          below = λ z m q. subst (λ (x : ℤ). leastUnder N k v ≤ℤ x) (slack-is z m) (l .below z (met z m q));
+          at = l .at;
+          in-list = u .0;
+          under = u .1;
+          is = sym (slack-is (l .at) (u .0)) ∙ l .is;
+        }
 
   module _ {ps us : List ℕ} (I : Inserted N k ps us) where
     -- the parents that the array holds

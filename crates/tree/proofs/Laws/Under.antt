@@ -1,8 +1,8 @@
 -- The vertices at or under a vertex: those that meet it on their way up. Assumes nothing.
-use Prim.Native.Nat.{ℕ, zero, suc, _+_, _≤_, _<_, zero-le}
+use Prim.Native.Nat.{ℕ, zero, suc, _+_, _*_, _≤_, _<_, zero-le}
 use mathlib.Core.Path.{_≡_, refl, sym, ap, _∙_, subst}
 use mathlib.Core.Logic.{_≢_, _⊎_, inl, inr}
-use mathlib.Core.List.{List}
+use mathlib.Core.List.{List, [], _∷_}
 use native.Mathlib.Nat.{zero-add, suc-add}
 use native.Mathlib.Omega.{arith}
 use lib.ListN.{length}
@@ -10,9 +10,9 @@ use Rattle.tree.proofs.Laws.AnySplit.{meet}
 use Rattle.tree.proofs.Laws.Growing.{PartTree, Inner, parent-inner, inner-up, inner-reach, hops-up, hops-down}
 use Rattle.tree.proofs.Laws.KraftSums.{depthIn}
 use Rattle.tree.proofs.Laws.SinkEdge.{in-pos, meet-next, meet-stable, meet-self}
-use Rattle.tree.proofs.Laws.Sums.{delta-self, delta-ne, equal?, down-once}
-use Rattle.tree.proofs.Laws.Walks.{hops, ancestor-more, ancestor-add}
-use Rattle.tree.specs.Lists.{delta, count, down}
+use Rattle.tree.proofs.Laws.Sums.{delta-self, delta-ne, equal?, down-in, down-once}
+use Rattle.tree.proofs.Laws.Walks.{hops, hops-le, ancestor-more, ancestor-add}
+use Rattle.tree.specs.Lists.{sumOver, delta, count, down}
 use Rattle.tree.specs.Measures.{pathUp}
 use Rattle.tree.specs.Tree.{ancestor}
 
@@ -172,3 +172,45 @@ module _ {N : ℕ} {S : List ℕ} {k F : ℕ} {p : ℕ → ℕ} (t : PartTree N 
       go ih (inl e) (inl q) = absurd (omega arith)
       go ih (inr r) (inl q) = omega (arith, r)
       go ih r (inr d) = ih (omega (arith, delta-ne u (suc v) d))
+
+-- ---- some sink is under each vertex
+
+-- what has children has one of them
+child-in : (l : List ℕ) (p : ℕ → ℕ) (u : ℕ) → sumOver l (λ x. delta u (p x)) ≢ 0 → (x : ℕ) × (count x l ≢ 0) × (p x ≡ u)
+child-in [] p u h = absurd (h refl)
+child-in (x ∷ l) p u h = go (child-in l p u) (equal? u (p x))
+  where
+    go : (sumOver l (λ x. delta u (p x)) ≢ 0 → (x : ℕ) × (count x l ≢ 0) × (p x ≡ u)) → (u ≡ p x) ⊎ (u ≢ p x) → (y : ℕ) × (count y (x ∷ l) ≢ 0) × (p y ≡ u)
+    go ih (inl e) = (x, omega (arith, delta-self x), sym e)
+    go ih (inr d) = let r : (y : ℕ) × (count y l ≢ 0) × (p y ≡ u) = ih (omega (arith, delta-ne u (p x) d)) in (r .0, omega (arith, r .1), r .2)
+
+module _ {N : ℕ} {S : List ℕ} {k F : ℕ} {p : ℕ → ℕ} (t : PartTree N S k F p) where
+  -- the root and each branch point have a child
+  pub some-child : (u : ℕ) → Inner N k u → (c : ℕ) × (count c S + count c (down N k) ≢ 0) × (p c ≡ u)
+  some-child u i = go (equal? (sumOver S (λ x. delta u (p x))) 0)
+    where
+      due : Inner N k u → delta u 0 + 2 * count u (down N k) ≢ 0
+      due (inl e) = omega (arith, ap (λ (z : ℕ). delta z 0) e)
+      due (inr r) = omega (arith, down-once N k u (r .0) (r .1))
+
+      go : (sumOver S (λ x. delta u (p x)) ≡ 0) ⊎ (sumOver S (λ x. delta u (p x)) ≢ 0) → (c : ℕ) × (count c S + count c (down N k) ≢ 0) × (p c ≡ u)
+      go (inl e) = let r : (c : ℕ) × (count c (down N k) ≢ 0) × (p c ≡ u) = child-in (down N k) p u (omega (arith, t .children-are u, due i)) in (r .0, omega (arith, r .1), r .2)
+      go (inr d) = let r : (c : ℕ) × (count c S ≢ 0) × (p c ≡ u) = child-in S p u d in (r .0, omega (arith, r .1), r .2)
+
+  -- from child to child, at most `left` more
+  sink-down : (left v : ℕ) → count v S + count v (down N k) ≢ 0 → F < left + hops p F v → (y : ℕ) × (count y S ≢ 0) × (meet p F v y ≢ 0)
+  sink-down zero v m l = absurd (omega (arith, hops-le p F v))
+  sink-down (suc left) v m l = go (λ c n h. sink-down left c n h) (equal? (count v S) 0)
+    where
+      go : ((c : ℕ) → count c S + count c (down N k) ≢ 0 → F < left + hops p F c → (y : ℕ) × (count y S ≢ 0) × (meet p F c y ≢ 0))
+          → (count v S ≡ 0) ⊎ (count v S ≢ 0) → (y : ℕ) × (count y S ≢ 0) × (meet p F v y ≢ 0)
+      go ih (inr d) = (v, d, meet-self p F v (in-pos t v m) (t .reach v m))
+      go ih (inl e) =
+          let w : (c : ℕ) × (count c S + count c (down N k) ≢ 0) × (p c ≡ v) = some-child v (inr (down-in N k v (omega arith))) in
+          let deeper : hops p F (w .0) ≡ suc (hops p F v) = hops-up p F (w .0) (in-pos t (w .0) (w .1)) (t .reach (w .0) (w .1)) ∙ ap (λ (z : ℕ). suc (hops p F z)) (w .2) in
+          let r : (y : ℕ) × (count y S ≢ 0) × (meet p F (w .0) y ≢ 0) = ih (w .0) (w .1) (omega arith) in
+          let up : meet p F (p (w .0)) (r .0) ≢ 0 = under-parent t (w .0) (r .0) (omega (arith, r .1)) (λ z. in-pos t v m (sym (w .2) ∙ z)) (r .2) in
+          (r .0, r .1, subst (λ (z : ℕ). meet p F z (r .0) ≢ 0) (w .2) up)
+
+  pub some-sink : (v : ℕ) → count v S + count v (down N k) ≢ 0 → (y : ℕ) × (count y S ≢ 0) × (meet p F v y ≢ 0)
+  some-sink v m = sink-down (suc F) v m (omega arith)

@@ -4,7 +4,7 @@ use mathlib.Core.Path.{_≡_, refl, _∙_, subst}
 use native.Mathlib.Omega.{arith}
 use borrow.Author.Needs.{needs}
 use lib.ListN.{getD}
-use Rattle.tree.specs.Insertion.{score}
+use Rattle.tree.specs.SmallestSlack.{score}
 use Rattle.tree.specs.Choice.{farAt, BestEdge}
 use Rattle.tree.proofs.Laws.Choosing.{SinkFrom, edge-is, far-sink, last-sink, next-sink, all-sinks}
 use Rattle.tree.proofs.choose.best_sink.Statement.{statement}
@@ -49,7 +49,7 @@ loop-holds c =
     let d = farAt (a .n) (a .xs .now) (a .ys .now) (a .s) in
     let u = getD (a .sinks .now) i 0 in
     let far = c .far-apart .ensures ∙ far-sink (a .n) (a .xs .now) (a .ys .now) (a .s) u (q .0) in
-    (omega arith, last-sink f d (a .sinks .now) (a .m) i _ (omega arith) (edge-is f d _ u refl (c .before .score-of .ensures) far))
+    (omega arith, last-sink f d (a .sinks .now) (a .m) i _ (omega arith) (edge-is f d _ u refl (c .before .score-of .ensures .0) far))
 
 sub-i-2 : tie.Need-sub-i-2 Inv-loop μ-loop
 sub-i-2 c = omega arith

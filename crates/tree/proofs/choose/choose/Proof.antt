@@ -3,7 +3,7 @@ use Prim.Native.Nat.{ℕ, suc, _+_}
 use mathlib.Core.Path.{_≡_, sym, _∙_, subst}
 use native.Mathlib.Omega.{arith}
 use borrow.Author.Needs.{needs}
-use Rattle.tree.specs.Insertion.{score}
+use Rattle.tree.specs.SmallestSlack.{score}
 use Rattle.tree.specs.Choice.{farAt, BestEdge, SinkEnd}
 use Rattle.tree.proofs.Laws.Choosing.{far-branch-point}
 use Rattle.tree.proofs.choose.choose.Statement.{statement}

@@ -12,7 +12,7 @@ use mir.Facts.{toZ-ofZ}
 use Rattle.quantities.specs.Linear.{fit}
 use Rattle.quantities.proofs.Laws.Order.{min-le-left}
 use Rattle.tree.specs.declared.choose.Edge.{Edge}
-use Rattle.tree.specs.Insertion.{score}
+use Rattle.tree.specs.SmallestSlack.{score}
 use Rattle.tree.specs.Choice.{firstOf, BestEdge, SinkEnd}
 use Rattle.tree.proofs.Laws.Choosing.{edge-is, Upto, none-upto, next-upto, all-upto, not-beaten}
 use Rattle.tree.proofs.choose.or_branch_point.Statement.{statement}
@@ -72,7 +72,7 @@ loop-again c =
     let first = c .first-of in (
       omega arith,
       omega arith,
-      λ sinks d e B. let one = edge-is f d _ (l .b) refl (c .before .score-of .ensures) (sym (e (l .b) more)) in
+      λ sinks d e B. let one = edge-is f d _ (l .b) refl (c .before .score-of .ensures .0) (sym (e (l .b) more)) in
           next-upto f d (a .n) (l .b) (l .best) (first .result) more (l .inv .2 sinks d e B) (first .ensures ∙ ap (λ (x : Edge). firstOf x (l .best)) one),
     )
 

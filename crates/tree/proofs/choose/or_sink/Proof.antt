@@ -9,7 +9,7 @@ use mir.Facts.{toZ-ofZ}
 use Rattle.quantities.proofs.Laws.Order.{min-is}
 use Rattle.quantities.specs.Linear.{whole, fit, ltZ-is}
 use Rattle.tree.specs.declared.choose.Edge.{Edge}
-use Rattle.tree.specs.Insertion.{score}
+use Rattle.tree.specs.SmallestSlack.{score}
 use Rattle.tree.specs.Choice.{farAt, firstOf, edgeTo}
 use Rattle.tree.proofs.Laws.Choosing.{less-behind, edge-is, far-sink}
 use borrow.Author.Needs.{needs}
@@ -60,7 +60,7 @@ returns-2 c =
     let f = score (a .branch .0) (a .slacks .now) in
     let d = farAt (a .n) (a .xs .now) (a .ys .now) (a .s) in
     let far = c .before .far-apart .ensures ∙ far-sink (a .n) (a .xs .now) (a .ys .now) (a .s) (a .u) (omega arith) in
-    c .first-of .ensures ∙ ap (λ (x : Edge). firstOf x (a .best)) (edge-is f d _ (a .u) refl (c .before .before .score-of .ensures) far)
+    c .first-of .ensures ∙ ap (λ (x : Edge). firstOf x (a .best)) (edge-is f d _ (a .u) refl (c .before .before .score-of .ensures .0) far)
 
 pub or-sink-spec : {M : Type 1} → statement M
 or-sink-spec =

@@ -2,13 +2,13 @@
 use native.Mathlib.Numerals.{add-one}
 use Prim.Native.Nat.{ℕ, suc, _+_, _*_, _-_, _<_}
 use mathlib.Core.Path.{_≡_, refl, sym, _∙_, subst}
-use mathlib.Core.List.{List, [], _∷_}
+use mathlib.Core.List.{[], _∷_}
 use native.Mathlib.Omega.{arith}
 use borrow.Author.Needs.{needs}
 use lib.ListN.{length, getD}
 use Rattle.tree.specs.Net.{Net}
 use Rattle.tree.specs.Arrays.{Chained}
-use Rattle.tree.specs.Insertion.{Ready, Lined, Placed, Inserted, Leveled, Gathered}
+use Rattle.tree.specs.Insertion.{Ready, Lined, Placed, HoldsSoFar}
 use Rattle.tree.proofs.Laws.Inserting.{insert-first, chain-first, first-leveled, first-gathered, last-parents, last-order, last-slacks}
 use Rattle.tree.proofs.Laws.NetArrays.{few-sinks, line-in}
 use Rattle.tree.proofs.Laws.Regathering.{place-in}
@@ -19,7 +19,7 @@ use Rattle.tree.proofs.insert.insert_all.Tie as tie
 abbrev Inv-loop : tie.InvT-loop
 Inv-loop branch n xs ys own sinks levels₀ slacks₀ parents₀ below₀ k₀ levels slacks parents below k =
     (k < n) × (length levels ≡ length levels₀) × (length slacks ≡ length slacks₀) × (length parents ≡ length parents₀) × (length below ≡ length below₀)
-    × ((N : Net) → Ready N (branch .0) n own → Lined N n sinks → Placed N n xs ys → (us : List ℕ) × Inserted N k parents us × Chained (2 * k + 1) us below × Leveled N k levels × Gathered N k slacks)
+    × ((N : Net) → Ready N (branch .0) n own → Lined N n sinks → Placed N n xs ys → HoldsSoFar N k parents below levels slacks)
 
 abbrev μ-loop : tie.MeasureT-loop
 μ-loop branch n xs ys own sinks levels₀ slacks₀ parents₀ below₀ k₀ levels slacks parents below k = n - k
@@ -50,13 +50,13 @@ loop-holds c =
       refl,
       refl,
       refl,
-      λ N R L W. (
-        first ∷ [],
-        insert-first R L (f .last .1 .1 .1 .1 .1 .0) (first ∷ []) (e .1 .1 .0) refl,
-        chain-first (a .below .now) first (small .0) b (e .1 .1 .1),
-        first-leveled R L (a .levels .now) (a .slacks .now) refl l s (e .0) (e .1 .0),
-        first-gathered R L (a .levels .now) (a .slacks .now) refl l s (e .0) (e .1 .0),
-      ),
+      λ N R L W. record {
+        upward = first ∷ [];
+        inserted = insert-first R L (f .last .1 .1 .1 .1 .1 .0) (first ∷ []) (e .1 .1 .0) refl;
+        chained = chain-first (a .below .now) first (small .0) b (e .1 .1 .1);
+        leveled = first-leveled R L (a .levels .now) (a .slacks .now) refl l s (e .0) (e .1 .0);
+        gathered = first-gathered R L (a .levels .now) (a .slacks .now) refl l s (e .0) (e .1 .0);
+      },
     )
 
 add-loop : tie.Need-add-loop Inv-loop μ-loop
@@ -68,7 +68,7 @@ insert-next-requires c κs =
     let r = p .0 .1 in
     let l = c .before .before .before .before .before .loop in
     let i = l .inv .5 (p .0 .0) (r .0) (r .1) (r .2) in
-    ((p .0 .0, i .0, (r .0, r .1, r .2, i .1, i .2, i .3, i .4)), omega (arith, p .1, l .inv .1, l .inv .2, l .inv .3, l .inv .4, c .before .before .before .before .before .before .before .before .before .before .before .before .before .insert-first .kept))
+    ((p .0 .0, (r .0, r .1, r .2, i)), omega (arith, p .1, l .inv .1, l .inv .2, l .inv .3, l .inv .4, c .before .before .before .before .before .before .before .before .before .before .before .before .before .insert-first .kept))
 
 add-k : tie.Need-add-k Inv-loop μ-loop
 add-k c = let l = c .before .before .before .before .before .before .before .before .before .before .before .before .before .loop in omega (arith, l .inv .0, few-sinks (c .before .before .before .before .before .before .before .before .before .before .before .before .before .before .before .before .before .before .before .before .before .before .before .before .before .before .before .before .before .before .before .pre .0 .1 .0))
@@ -86,15 +86,8 @@ loop-again c =
       m .kept .1 .1 .1 .1 .1 .1 .1 .1 .1 .0 ∙ l .inv .3,
       m .kept .1 .1 .1 .1 .1 .1 .1 .1 .1 .1 .0 ∙ l .inv .4,
       λ N R L W.
-          let i = l .inv .5 N R L W in
-          let n = m .ensures N (i .0) R L W (i .1) (i .2) (i .3) (i .4) in
-          let e = sym (add-one (l .k)) in (
-            n .0,
-            subst (λ (j : ℕ). Inserted N j (m .last .1 .1 .1 .1 .1 .1 .1 .1 .1 .0) (n .0)) e (n .1),
-            subst (λ (j : ℕ). Chained (2 * j + 1) (n .0) (m .last .1 .1 .1 .1 .1 .1 .1 .1 .1 .1 .0)) e (n .2),
-            subst (λ (j : ℕ). Leveled N j (m .last .1 .1 .1 .1 .1 .1 .1 .0)) e (n .3),
-            subst (λ (j : ℕ). Gathered N j (m .last .1 .1 .1 .1 .1 .1 .1 .1 .0)) e (n .4),
-          ),
+          subst (λ (j : ℕ). HoldsSoFar N j (m .last .1 .1 .1 .1 .1 .1 .1 .1 .1 .0) (m .last .1 .1 .1 .1 .1 .1 .1 .1 .1 .1 .0) (m .last .1 .1 .1 .1 .1 .1 .1 .0) (m .last .1 .1 .1 .1 .1 .1 .1 .1 .0)) (sym (add-one (l .k)))
+          (m .ensures N R L W (l .inv .5 N R L W)),
     )
 
 mul-write-out : tie.Need-mul-write-out Inv-loop μ-loop
@@ -111,7 +104,7 @@ write-out-requires c κs =
     let l = c .before .before .before .loop in
     let i = l .inv .5 (p .0 .0) (r .0) (r .1) (r .2) in
     let m : 2 * l .k + 1 ≡ 2 * a .n - 1 = omega arith in (
-      (i .0, subst (λ (z : ℕ). Chained z (i .0) (l .below)) m (i .2), λ h q. omega (arith, place-in (r .0) (i .1) (l .inv .0) h (omega arith), p .1, l .inv .4, c .before .before .before .before .before .before .before .before .before .before .before .insert-first .kept)),
+      (i .upward, subst (λ (z : ℕ). Chained z (i .upward) (l .below)) m (i .chained), λ h q. omega (arith, place-in (r .0) (i .inserted) (l .inv .0) h (omega arith), p .1, l .inv .4, c .before .before .before .before .before .before .before .before .before .before .before .insert-first .kept)),
       omega (arith, p .1, few-sinks (r .0), l .inv .1, l .inv .4, c .before .before .before .before .before .before .before .before .before .before .before .insert-first .kept),
     )
 
@@ -136,10 +129,10 @@ returns c =
     let done : a .n ≡ suc (l .k) = omega arith in
     let i = l .inv .5 (p .0 .0) (r .0) (r .1) (r .2) in
     let m : 2 * l .k + 1 ≡ 2 * a .n - 1 = omega arith in (
-      (λ N R L W. last-parents R (l .inv .5 N R L W .1) done),
+      (λ N R L W. last-parents R (l .inv .5 N R L W .inserted) done),
       (
-        leaves-same (last-order (r .0) (i .1) done) (c .before .before .write-out .ensures (i .0) (subst (λ (z : ℕ). Chained z (i .0) (l .below)) m (i .2))),
-        λ N R L W. last-slacks R (l .inv .5 N R L W .1) done (l .inv .5 N R L W .4),
+        leaves-same (last-order (r .0) (i .inserted) done) (c .before .before .write-out .ensures (i .upward) (subst (λ (z : ℕ). Chained z (i .upward) (l .below)) m (i .chained))),
+        λ N R L W. last-slacks R (l .inv .5 N R L W .inserted) done (l .inv .5 N R L W .gathered),
       ),
     )
 

@@ -26,15 +26,15 @@ choose-requires : tie.Need-choose-requires
 choose-requires c κs =
     let a = c .before .before .before .before .before .before .args in
     let p = c .before .before .before .before .before .before .pre in
-    let r = p .0 .2 in
+    let r = p .0 .1 in
     let b : Within termReach (a .branch .0) = branch-within (r .0) in
     let kn = p .1 .0 in (
       (few-sinks (r .0) .1, omega arith, line-in (r .1) (r .0 .size-is) (a .k + 1) (omega arith) .1, r .2 .xs-long, r .2 .ys-long, omega (arith, r .1 .long), omega (arith, p .1), omega (arith, whole)),
       (
         points-within (r .0 .in-range) (r .0 .size-is) (r .2),
         (
-          (λ i l. (line-in (r .1) (r .0 .size-is) i (omega arith) .1, end-within (r .0) (r .1) (r .2) (r .3) (r .6) kn (getD (a .sinks .now) i 0) (inl (i, l, refl)))),
-          λ b l h. end-within (r .0) (r .1) (r .2) (r .3) (r .6) kn b (inr (l, h)),
+          (λ i l. (line-in (r .1) (r .0 .size-is) i (omega arith) .1, end-within (r .0) (r .1) (r .2) (r .3 .inserted) (r .3 .gathered) kn (getD (a .sinks .now) i 0) (inl (i, l, refl)))),
+          λ b l h. end-within (r .0) (r .1) (r .2) (r .3 .inserted) (r .3 .gathered) kn b (inr (l, h)),
         ),
       ),
     )
@@ -42,41 +42,41 @@ choose-requires c κs =
 regather-requires : tie.Need-regather-requires
 regather-requires c κs =
     let p = c .before .before .before .before .before .before .before .before .before .before .before .pre in
-    let r = p .0 .2 in
+    let r = p .0 .1 in
     let best = c .before .before .before .before .choose .ensures in
-    ((p .0 .0, p .0 .1, (r .0, r .3, r .4, r .5, r .6, s-next (r .0) (r .1) (r .2) (r .3) (r .6) (p .1 .0) refl best, splits-next (r .0) (r .1) (r .2) (r .3) (r .6) (p .1 .0) refl best .0)), omega (arith, p .1))
+    ((p .0 .0, (r .0, r .3, s-next (r .0) (r .1) (r .2) (r .3 .inserted) (r .3 .gathered) (p .1 .0) refl best, splits-next (r .0) (r .1) (r .2) (r .3 .inserted) (r .3 .gathered) (p .1 .0) refl best .0)), omega (arith, p .1))
 
 -- v and its parent are vertices
 in-tree : (c : tie.After-choose) → (c .choose .result < 2 * c .before .before .before .before .before .before .before .args .n) × (getD (c .before .before .before .before .before .before .before .args .parents .now) (c .choose .result) 0 < 2 * c .before .before .before .before .before .before .before .args .n)
 in-tree c =
     let p = c .before .before .before .before .before .before .before .pre in
-    let r = p .0 .2 in
-    let w = end-place (r .0) (r .1) (r .2) (r .3) (r .6) (p .1 .0) refl (c .choose .ensures) in
-    (omega (arith, place-in (r .0) (r .3) (omega arith) (w .0) (w .1), w .2), omega (arith, parent-in (r .0) (r .3) (omega arith) (w .0) (w .1), ap (λ (z : ℕ). getD (c .before .before .before .before .before .before .before .args .parents .now) z 0) (w .2)))
+    let r = p .0 .1 in
+    let w = end-place (r .0) (r .1) (r .2) (r .3 .inserted) (r .3 .gathered) (p .1 .0) refl (c .choose .ensures) in
+    (omega (arith, place-in (r .0) (r .3 .inserted) (omega arith) (w .0) (w .1), w .2), omega (arith, parent-in (r .0) (r .3 .inserted) (omega arith) (w .0) (w .1), ap (λ (z : ℕ). getD (c .before .before .before .before .before .before .before .args .parents .now) z 0) (w .2)))
 
 mul-put-before : tie.Need-mul-put-before
-mul-put-before c = omega (arith, in-tree (c .before .before .before .before .before .before .before .before .before), few-sinks (c .before .before .before .before .before .before .before .before .before .before .before .before .before .before .before .before .pre .0 .2 .0))
+mul-put-before c = omega (arith, in-tree (c .before .before .before .before .before .before .before .before .before), few-sinks (c .before .before .before .before .before .before .before .before .before .before .before .before .before .before .before .before .pre .0 .1 .0))
 
 slice-read-put-before : tie.Need-slice-read-put-before
 slice-read-put-before c = omega (arith, in-tree (c .before .before .before .before .before .before .before .before .before .before), c .before .before .before .before .before .before .before .before .before .before .before .before .before .before .before .before .before .pre .1)
 
 add-put-before : tie.Need-add-put-before
-add-put-before c = omega (arith, c .before .before .before .before .before .before .before .before .before .before .before .before .before .before .before .before .before .pre .1, few-sinks (c .before .before .before .before .before .before .before .before .before .before .before .before .before .before .before .before .before .pre .0 .2 .0))
+add-put-before c = omega (arith, c .before .before .before .before .before .before .before .before .before .before .before .before .before .before .before .before .before .pre .1, few-sinks (c .before .before .before .before .before .before .before .before .before .before .before .before .before .before .before .before .before .pre .0 .1 .0))
 
 add-put-before-2 : tie.Need-add-put-before-2
-add-put-before-2 c = omega (arith, c .before .before .before .before .before .before .before .before .before .before .before .before .before .before .before .before .before .pre .1, few-sinks (c .before .before .before .before .before .before .before .before .before .before .before .before .before .before .before .before .before .pre .0 .2 .0))
+add-put-before-2 c = omega (arith, c .before .before .before .before .before .before .before .before .before .before .before .before .before .before .before .before .before .pre .1, few-sinks (c .before .before .before .before .before .before .before .before .before .before .before .before .before .before .before .before .before .pre .0 .1 .0))
 
 put-before-requires : tie.Need-put-before-requires
-put-before-requires c κs = let p = c .before .before .before .before .before .before .before .before .before .before .before .before .before .before .before .before .before .pre in let r = p .0 .2 in omega (arith, p .1, in-tree (c .before .before .before .before .before .before .before .before .before .before), line-in (r .1) (r .0 .size-is) (c .before .before .before .before .before .before .before .before .before .before .before .before .before .before .before .before .before .args .k + 1) (omega arith))
+put-before-requires c κs = let p = c .before .before .before .before .before .before .before .before .before .before .before .before .before .before .before .before .before .pre in let r = p .0 .1 in omega (arith, p .1, in-tree (c .before .before .before .before .before .before .before .before .before .before), line-in (r .1) (r .0 .size-is) (c .before .before .before .before .before .before .before .before .before .before .before .before .before .before .before .before .before .args .k + 1) (omega arith))
 
 add-split-edge : tie.Need-add-split-edge
-add-split-edge c = omega (arith, c .before .before .before .before .before .before .before .before .before .before .before .before .before .before .before .before .before .before .before .before .before .pre .1, few-sinks (c .before .before .before .before .before .before .before .before .before .before .before .before .before .before .before .before .before .before .before .before .before .pre .0 .2 .0))
+add-split-edge c = omega (arith, c .before .before .before .before .before .before .before .before .before .before .before .before .before .before .before .before .before .before .before .before .before .pre .1, few-sinks (c .before .before .before .before .before .before .before .before .before .before .before .before .before .before .before .before .before .before .before .before .before .pre .0 .1 .0))
 
 add-split-edge-2 : tie.Need-add-split-edge-2
-add-split-edge-2 c = omega (arith, c .before .before .before .before .before .before .before .before .before .before .before .before .before .before .before .before .before .before .before .before .before .pre .1, few-sinks (c .before .before .before .before .before .before .before .before .before .before .before .before .before .before .before .before .before .before .before .before .before .pre .0 .2 .0))
+add-split-edge-2 c = omega (arith, c .before .before .before .before .before .before .before .before .before .before .before .before .before .before .before .before .before .before .before .before .before .pre .1, few-sinks (c .before .before .before .before .before .before .before .before .before .before .before .before .before .before .before .before .before .before .before .before .before .pre .0 .1 .0))
 
 split-edge-requires : tie.Need-split-edge-requires
-split-edge-requires c κs = let p = c .before .before .before .before .before .before .before .before .before .before .before .before .before .before .before .before .before .before .before .before .before .pre in let r = p .0 .2 in omega (arith, p .1, in-tree (c .before .before .before .before .before .before .before .before .before .before .before .before .before .before), line-in (r .1) (r .0 .size-is) (c .before .before .before .before .before .before .before .before .before .before .before .before .before .before .before .before .before .before .before .before .before .args .k + 1) (omega arith))
+split-edge-requires c κs = let p = c .before .before .before .before .before .before .before .before .before .before .before .before .before .before .before .before .before .before .before .before .before .pre in let r = p .0 .1 in omega (arith, p .1, in-tree (c .before .before .before .before .before .before .before .before .before .before .before .before .before .before), line-in (r .1) (r .0 .size-is) (c .before .before .before .before .before .before .before .before .before .before .before .before .before .before .before .before .before .before .before .before .before .args .k + 1) (omega arith))
 
 same-length : tie.Need-same-length
 same-length c = search needs
@@ -95,10 +95,14 @@ returns c =
     let a = c .before .before .before .before .before .before .before .before .before .before .before .before .before .before .before .before .before .before .before .before .before .before .before .before .args in
     let p = c .before .before .before .before .before .before .before .before .before .before .before .before .before .before .before .before .before .before .before .before .before .before .before .before .pre in
     let best = c .before .before .before .before .before .before .before .before .before .before .before .before .before .before .before .before .before .choose .ensures in
-    λ N us R L W I C A G.
-    let n = c .before .before .before .before .before .before .before .before .before .before .before .before .regather .ensures N us R I C A G (s-next R L W I G (p .1 .0) refl best) (splits-next R L W I G (p .1 .0) refl best) in
-    let o = next-order R L W I G (p .1 .0) refl best (a .below .now) refl (p .1 .3) (p .1 .4) C (c .before .before .split-edge .ensures) (c .before .before .before .before .before .before .put-before .ensures) in
-    (o .0, o .1, o .2, n .0, n .1)
+    λ N R L W H.
+    let I = H .inserted in
+    let G = H .gathered in
+    let n = c .before .before .before .before .before .before .before .before .before .before .before .before .regather .ensures in
+    let sn = s-next R L W I G (p .1 .0) refl best in
+    let X = splits-next R L W I G (p .1 .0) refl best in
+    let o = next-order R L W I G (p .1 .0) refl best (a .below .now) refl (p .1 .3) (p .1 .4) (H .chained) (c .before .before .split-edge .ensures) (c .before .before .before .before .before .before .put-before .ensures) in
+    record { upward = o .0; inserted = o .1; chained = o .2; leveled = n .0 N R H sn X; gathered = n .1 N R H sn X }
 
 pub insert-next-spec : {M : Type 1} → statement M
 insert-next-spec =

@@ -9,7 +9,7 @@ use lib.IntN.{pos}
 use mir.Facts.{toZ-ofZ}
 use Rattle.quantities.specs.Linear.{fit, rd}
 use Rattle.tree.specs.Net.{Net}
-use Rattle.tree.specs.Insertion.{sinksIn}
+use Rattle.tree.specs.SmallestSlack.{sinksIn}
 use Rattle.tree.specs.SinkSplits.{Sorted, Kept}
 use Rattle.tree.proofs.Laws.SinkArrays.{some-sink, sink-in, first-kept, worst-maximum}
 use Rattle.tree.proofs.kraft.worst_of_all.Statement.{statement}
