@@ -93,8 +93,9 @@ fn hang_new(
     ensures slacks { λ r. ⌜ now (slacks .exit) ≡ set (set (now (slacks .entry)) s (getD (now (own .entry)) s (pos 0) -ℤ branch .0 *ℤ pos (getD (now (levels .entry)) v 0))) b (getD (now (slacks .entry)) v (pos 0) -ℤ branch .0) ⌝ }
 {
     let level = levels[v];
+    let deeper = level + 1;
     let least = Time::of(slacks[v]).minus(branch);
-    levels[s] = level + 1;
+    levels[s] = deeper;
     slacks[s] = Time::of(own[s]).minus(branch.times(level as u64)).value();
     levels[b] = level;
     slacks[b] = least.value();

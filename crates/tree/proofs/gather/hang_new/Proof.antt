@@ -17,6 +17,9 @@ mul-level c = search needs
 slice-read-level : tie.Need-slice-read-level
 slice-read-level c = search needs
 
+add-deeper : tie.Need-add-deeper
+add-deeper c = search needs
+
 mul-of : tie.Need-mul-of
 mul-of c = search needs
 
@@ -35,9 +38,6 @@ own-read c = let a = c .before .before .before .before .before .before .before .
 
 minus-requires : tie.Need-minus-requires
 minus-requires c κs = let p = c .before .before .before .before .pre in omega (arith, whole, slack-read c)
-
-add-levels : tie.Need-add-levels
-add-levels c = search needs
 
 mul-levels : tie.Need-mul-levels
 mul-levels c = search needs
@@ -83,8 +83,8 @@ slice-write-levels-2 c = search needs
 value-requires-2 : tie.Need-value-requires-2
 value-requires-2 c κs = search needs
 
-mul-t10 : tie.Need-mul-t10
-mul-t10 c = search needs
+mul-t13 : tie.Need-mul-t13
+mul-t13 c = search needs
 
 slice-set-from-slacks-2 : tie.Need-slice-set-from-slacks-2
 slice-set-from-slacks-2 c = search needs
@@ -108,11 +108,11 @@ hang-new-spec =
     (tie.spec
     mul-level
     slice-read-level
+    add-deeper
     mul-of
     slice-copy-out-of
     of-requires
     minus-requires
-    add-levels
     mul-levels
     slice-write-levels
     mul-of-2
@@ -126,7 +126,7 @@ hang-new-spec =
     mul-levels-2
     slice-write-levels-2
     value-requires-2
-    mul-t10
+    mul-t13
     slice-set-from-slacks-2
     same-length
     same-length-2
