@@ -53,5 +53,6 @@ pub mod Climbing
 pub mod Largest
 pub mod SinkSplits
 pub mod SinkArrays
+pub mod Comparing
 pub mod Choosing
 pub mod Marked

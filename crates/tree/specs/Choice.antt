@@ -1,13 +1,13 @@
 -- The choice of the edge to split, from the numbers that the planner's arrays give, for the contracts of its inner functions. Definitions alone.
-use Prim.Native.Nat.{ℕ, _+_, _≤_, _<_}
+use Prim.Native.Nat.{ℕ, suc, _+_, _≤_, _<_}
 use mathlib.Core.Path.{_≡_}
-use mathlib.Core.Bool.{Bool, cond}
+use mathlib.Core.Bool.{Bool, true, false, cond}
 use mathlib.Core.Logic.{_⊎_}
 use mathlib.Core.List.{List}
 use lib.ListN.{getD}
 use lib.Dec.{ltb}
-use lib.IntN.{ℤ}
-use lib.Signed.{_≤ℤ_}
+use lib.IntN.{ℤ, pos, _-ℤ_}
+use lib.Signed.{_≤ℤ_, ltZ}
 use Rattle.quantities.specs.Distance.{distance}
 use Rattle.tree.specs.declared.choose.Edge.{Edge}
 use Rattle.tree.specs.Planning.{nearer, ranks}
@@ -44,3 +44,20 @@ SinkEnd sinks m v = (i : ℕ) × (i < m) × (getD sinks i 0 ≡ v)
 
 abbrev pub AnyEnd : List ℕ → ℕ → ℕ → ℕ → ℕ → Type 0
 AnyEnd sinks m n h v = SinkEnd sinks m v ⊎ ((n < v) × (v ≤ n + h))
+
+-- the sinks at the places i to m - 1 of their order
+abbrev pub SinkFrom : List ℕ → ℕ → ℕ → ℕ → Type 0
+SinkFrom sinks i m v = (h : ℕ) × (i ≤ h) × (h < m) × (getD sinks h 0 ≡ v)
+
+-- no branch point has more room than every sink
+abbrev pub NoneRoomier : ℕ → ℕ → List ℕ → List ℤ → Type 0
+NoneRoomier n k sinks slacks = (b : ℕ) → n < b → b ≤ n + k → (i : ℕ) × (i < suc k) × (getD slacks b (pos 0) ≤ℤ getD slacks (getD sinks i 0) (pos 0))
+
+-- no branch point below b has room for w
+abbrev pub NoRoom : ℤ → List ℤ → ℤ → ℕ → ℕ → Type 0
+NoRoom branch slacks w n b = (v : ℕ) → n < v → v < b → ltZ (getD slacks v (pos 0) -ℤ branch) w ≡ true
+
+-- r is the lowest of k branch points that has room for w, or u where none has
+abbrev pub FirstRoomy : ℤ → List ℤ → ℤ → ℕ → ℕ → ℕ → ℕ → Type 0
+FirstRoomy branch slacks w n k u r =
+    ((n < r) × (r ≤ n + k) × (ltZ (getD slacks r (pos 0) -ℤ branch) w ≡ false) × NoRoom branch slacks w n r) ⊎ ((r ≡ u) × NoRoom branch slacks w n (suc (n + k)))

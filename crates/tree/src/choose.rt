@@ -1,11 +1,9 @@
 // The edge that the next sink splits: of the largest worst slack, then of the nearest lower end, then of its lowest number.
 ghost use mathlib.Core.Path.{_≡_};
-ghost use mathlib.Core.Bool.{_||_};
 ghost use mathlib.Core.List.{List};
 ghost use Prim.Native.Nat.{ℕ, suc, _+_, _≤_, _<_};
-ghost use lib.Dec.{ltb};
 ghost use lib.ListN.{length, getD};
-ghost use lib.IntN.{pos};
+ghost use lib.IntN.{pos, _-ℤ_};
 ghost use lib.Signed.{ltZ};
 ghost use Rattle.quantities.specs.Distance.{distance};
 ghost use Rattle.quantities.specs.Reach.{Within, PointWithin, timeReach};
@@ -13,7 +11,7 @@ ghost use Rattle.tree.specs.Net.{Net, size};
 ghost use Rattle.tree.specs.Limits.{positionLimit};
 ghost use Rattle.tree.specs.Arrays.{pointAt};
 ghost use Rattle.tree.specs.SmallestSlack.{InTree, Gathered, score, worstWith};
-ghost use Rattle.tree.specs.Choice.{farAt, goesBefore, firstOf, edgeTo, BestEnd, BestEdge, SinkEnd, AnyEnd};
+ghost use Rattle.tree.specs.Choice.{farAt, goesBefore, firstOf, edgeTo, BestEnd, BestEdge, SinkEnd, SinkFrom, AnyEnd, NoneRoomier, FirstRoomy};
 use crate::measure::point;
 use quantities::length::Length;
 use quantities::point::distance;
@@ -36,6 +34,14 @@ pub fn score_of(slacks: &[i64], branch: Time, v: usize) -> Time
     let under = Time::of(slacks[v]);
     let room = under.minus(branch);
     worst.least(room)
+}
+
+// Whether less than `score` would be left under v if the edge to v is split.
+fn lacks_room(slacks: &[i64], branch: Time, v: usize, score: Time) -> bool
+    requires { ⌜ (v < length (now slacks)) × Within timeReach (getD (now slacks) v (pos 0)) × Within timeReach (branch .0) ⌝ }
+    ensures { λ r. ⌜ r ≡ ltZ (getD (now (slacks .entry)) v (pos 0) -ℤ branch .0) (score .0) ⌝ }
+{
+    Time::of(slacks[v]).minus(branch).is_less(score)
 }
 
 // How far vertices u and v are from each other.
@@ -92,16 +98,81 @@ fn or_sink(
     requires { ⌜ PointWithin positionLimit (pointAt (now xs) (now ys) u) × PointWithin positionLimit (pointAt (now xs) (now ys) s) × Within timeReach (getD (now slacks) u (pos 0)) × Within timeReach (branch .0) ⌝ }
     ensures { λ r. ⌜ r ≡ firstOf (edgeTo (score (branch .0) (now (slacks .entry))) (farAt n (now (xs .entry)) (now (ys .entry)) s) u) best ⌝ }
 {
-    let room = Time::of(slacks[u]).minus(branch);
-    if room.is_less(best.score) {
+    if lacks_room(slacks, branch, u, best.score) {
         return best;
     }
-    let score = score_of(slacks, branch, u);
-    let far = far_apart(xs, ys, u, s);
-    first_of(Edge { end: u, score, far }, best)
+    first_of(
+        Edge {
+            end: u,
+            score: score_of(slacks, branch, u),
+            far: far_apart(xs, ys, u, s),
+        },
+        best,
+    )
 }
 
-// The best edge to one of the first m sinks, looked at from the last: those that went in last have the most room, so that few distances are needed.
+// The better of the best edge so far, which keeps the worst slack, and the one to sink u. No score is above it: u needs room for it, and then the nearer goes first.
+fn or_nearer_sink(
+    best: Edge,
+    n: usize,
+    xs: &[i64],
+    ys: &[i64],
+    slacks: &[i64],
+    branch: Time,
+    u: usize,
+    s: usize,
+) -> Edge
+    requires { ⌜ (u ≤ n) × (s ≤ n) × (n < length (now xs)) × (n < length (now ys)) × (u < length (now slacks)) ⌝ }
+    requires { ⌜ PointWithin positionLimit (pointAt (now xs) (now ys) u) × PointWithin positionLimit (pointAt (now xs) (now ys) s) × Within timeReach (getD (now slacks) u (pos 0)) × Within timeReach (branch .0) ⌝ }
+    requires { ⌜ best .score .0 ≡ getD (now slacks) 0 (pos 0) ⌝ }
+    ensures { λ r. ⌜ r ≡ firstOf (edgeTo (score (branch .0) (now (slacks .entry))) (farAt n (now (xs .entry)) (now (ys .entry)) s) u) best ⌝ }
+{
+    let score = best.score;
+    if lacks_room(slacks, branch, u, score) {
+        return best;
+    }
+    let far = far_apart(xs, ys, u, s);
+    let nearest = best.far;
+    if nearest.is_less(far) {
+        return best;
+    }
+    if far.is_less(nearest) {
+        return Edge { end: u, score, far };
+    }
+    if u < best.end {
+        return Edge { end: u, score, far };
+    }
+    best
+}
+
+// The best edge to one of the sinks, where `found` is the best to one of those from place `left` on. It keeps the worst slack, or none is left.
+fn or_nearer_sinks(
+    found: Edge,
+    n: usize,
+    left: usize,
+    xs: &[i64],
+    ys: &[i64],
+    sinks: &[usize],
+    slacks: &[i64],
+    branch: Time,
+    s: usize,
+) -> Edge
+    requires { ⌜ (left ≤ n) × (s ≤ n) × (n < length (now xs)) × (n < length (now ys)) × (left ≤ length (now sinks)) × Within timeReach (branch .0) ⌝ }
+    requires { ⌜ ((u : ℕ) → u ≤ n → PointWithin positionLimit (pointAt (now xs) (now ys) u)) ⌝ }
+    requires { ⌜ ((i : ℕ) → i < left → (getD (now sinks) i 0 ≤ n) × (getD (now sinks) i 0 < length (now slacks)) × Within timeReach (getD (now slacks) (getD (now sinks) i 0) (pos 0))) ⌝ }
+    requires { ⌜ (0 < left → found .score .0 ≡ getD (now slacks) 0 (pos 0)) ⌝ }
+    ensures { λ r. ⌜ ((m : ℕ) → left ≤ m → BestEdge (SinkFrom (now (sinks .entry)) left m) (score (branch .0) (now (slacks .entry))) (farAt n (now (xs .entry)) (now (ys .entry)) s) found → BestEdge (SinkFrom (now (sinks .entry)) 0 m) (score (branch .0) (now (slacks .entry))) (farAt n (now (xs .entry)) (now (ys .entry)) s) r) ⌝ }
+{
+    let mut best = found;
+    let mut i = left;
+    while 0 < i {
+        i -= 1;
+        best = or_nearer_sink(best, n, xs, ys, slacks, branch, sinks[i], s);
+    }
+    best
+}
+
+// The best edge to one of the first m sinks, looked at from the last: those that went in last have the most room, so that few distances are needed. From the first that keeps the worst slack on, scores are no longer compared.
 fn best_sink(
     n: usize,
     m: usize,
@@ -117,6 +188,7 @@ fn best_sink(
     requires { ⌜ ((i : ℕ) → i < m → (getD (now sinks) i 0 ≤ n) × (getD (now sinks) i 0 < length (now slacks)) × Within timeReach (getD (now slacks) (getD (now sinks) i 0) (pos 0))) ⌝ }
     ensures { λ r. ⌜ BestEdge (SinkEnd (now (sinks .entry)) m) (score (branch .0) (now (slacks .entry))) (farAt n (now (xs .entry)) (now (ys .entry)) s) r ⌝ }
 {
+    let worst = Time::of(slacks[0]);
     let last = sinks[m - 1];
     let mut best = Edge {
         end: last,
@@ -124,50 +196,45 @@ fn best_sink(
         far: far_apart(xs, ys, last, s),
     };
     let mut i = m - 1;
-    while 0 < i {
+    while 0 < i && best.score.is_less(worst) {
         i -= 1;
         best = or_sink(best, n, xs, ys, slacks, branch, sinks[i], s);
     }
-    best
+    or_nearer_sinks(best, n, i, xs, ys, sinks, slacks, branch, s)
 }
 
-// Whether an edge to a branch point could go before the best so far: no score is above the worst slack, and all branch points are as far as the root.
-fn may_be_beaten(best: Edge, worst: Time, far: Length) -> bool
-    ensures { λ r. ⌜ r ≡ ltZ (best .score .0) (worst .0) || ltb (far .0) (best .far .0) ⌝ }
+// The lowest of the branch points n+1 to n+k that has room for the score of `best`, or the end of `best` where none has.
+fn first_as_good(best: Edge, n: usize, k: usize, slacks: &[i64], branch: Time) -> usize
+    requires { ⌜ (n ≤ 512) × (k ≤ n) × (n + k < length (now slacks)) × Within timeReach (branch .0) ⌝ }
+    requires { ⌜ ((b : ℕ) → n < b → b ≤ n + k → Within timeReach (getD (now slacks) b (pos 0))) ⌝ }
+    ensures { λ r. ⌜ FirstRoomy (branch .0) (now (slacks .entry)) (best .score .0) n k (best .end) r ⌝ }
 {
     let score = best.score;
-    let reach = best.far;
-    score.is_less(worst) || far.is_less(reach)
+    let mut b = n + 1;
+    while b <= n + k && lacks_room(slacks, branch, b, score) {
+        b += 1;
+    }
+    if b <= n + k { b } else { best.end }
 }
 
-// The better of `found`, the best edge to a sink, and the best to one of the branch points n+1 to n+k, which are as far away as the root.
+// The lower end of the best edge: that of `best`, the best to a sink, or, where the root is nearer, the lowest branch point that scores as much. None scores more.
 fn or_branch_point(
-    found: Edge,
+    best: Edge,
     n: usize,
     k: usize,
     slacks: &[i64],
     branch: Time,
     far: Length,
-) -> Edge
+) -> usize
     requires { ⌜ (n ≤ 512) × (k ≤ n) × (n + k < length (now slacks)) × Within timeReach (branch .0) ⌝ }
     requires { ⌜ ((b : ℕ) → n < b → b ≤ n + k → Within timeReach (getD (now slacks) b (pos 0))) ⌝ }
-    ensures { λ r. ⌜ ((sinks : List ℕ) (d : ℕ → ℕ) → ((i : ℕ) → i < suc k → getD sinks i 0 ≤ n) → ((b : ℕ) → n < b → d b ≡ far .0) → BestEdge (SinkEnd sinks (suc k)) (score (branch .0) (now (slacks .entry))) d found → BestEdge (AnyEnd sinks (suc k) n k) (score (branch .0) (now (slacks .entry))) d r) ⌝ }
+    ensures { λ r. ⌜ ((sinks : List ℕ) (d : ℕ → ℕ) → ((i : ℕ) → i < suc k → getD sinks i 0 ≤ n) → ((b : ℕ) → n < b → d b ≡ far .0) → NoneRoomier n k sinks (now (slacks .entry)) → BestEdge (SinkEnd sinks (suc k)) (score (branch .0) (now (slacks .entry))) d best → BestEnd (AnyEnd sinks (suc k) n k) (score (branch .0) (now (slacks .entry))) d r) ⌝ }
 {
-    let worst = Time::of(slacks[0]);
-    let mut best = found;
-    let mut b = n + 1;
-    while b <= n + k && may_be_beaten(best, worst, far) {
-        best = first_of(
-            Edge {
-                end: b,
-                score: score_of(slacks, branch, b),
-                far,
-            },
-            best,
-        );
-        b += 1;
+    let nearest = best.far;
+    if far.is_less(nearest) {
+        return first_as_good(best, n, k, slacks, branch);
     }
-    best
+    best.end
 }
 
 // The lower end of the edge that sink s splits, where the first k + 1 sinks and k branch points are in.
@@ -185,9 +252,10 @@ pub fn choose(
     requires { ⌜ ((u : ℕ) → u ≤ n → PointWithin positionLimit (pointAt (now xs) (now ys) u)) ⌝ }
     requires { ⌜ ((i : ℕ) → i < suc k → (getD (now sinks) i 0 ≤ n) × Within timeReach (getD (now slacks) (getD (now sinks) i 0) (pos 0))) ⌝ }
     requires { ⌜ ((b : ℕ) → n < b → b ≤ n + k → Within timeReach (getD (now slacks) b (pos 0))) ⌝ }
+    requires { ⌜ NoneRoomier n k (now sinks) (now slacks) ⌝ }
     ensures { λ r. ⌜ BestEnd (AnyEnd (now (sinks .entry)) (suc k) n k) (score (branch .0) (now (slacks .entry))) (farAt n (now (xs .entry)) (now (ys .entry)) s) r ⌝ }
 {
     let nearest = best_sink(n, k + 1, xs, ys, sinks, slacks, branch, s);
     let far = far_apart(xs, ys, 0, s);
-    or_branch_point(nearest, n, k, slacks, branch, far).end
+    or_branch_point(nearest, n, k, slacks, branch, far)
 }

@@ -1,53 +1,24 @@
 -- The search for the best edge: best of one, one more, and none of the rest goes before it. Assumes nothing.
 use Prim.Native.Nat.{ℕ, suc, _+_, _≤_, _<_}
 use mathlib.Core.Path.{_≡_, refl, sym, ap, _∙_, subst}
-use mathlib.Core.Bool.{Bool, true, false, cond, _||_}
+use mathlib.Core.Bool.{Bool, true, false, cond}
 use mathlib.Core.Logic.{_≢_, _⊎_, inl, inr}
 use mathlib.Core.List.{List}
 use native.Mathlib.Decide.{decLe}
 use native.Mathlib.Omega.{arith}
-use borrow.Author.Tests.{ltb-false, lt-ltb, le-ltb}
+use borrow.Author.Tests.{ltb-true, ltb-false}
 use lib.Dec.{ltb}
 use lib.ListN.{getD}
-use lib.IntN.{ℤ}
-use lib.Signed.{_≤ℤ_, ltZ}
-use Rattle.quantities.specs.Distance.{distance}
-use Rattle.quantities.specs.Linear.{whole, ltZ-not}
+use lib.IntN.{ℤ, pos, _-ℤ_}
+use lib.Signed.{_≤ℤ_, _<ℤ_, ltZ}
+use Rattle.quantities.specs.Linear.{whole, -is}
+use Rattle.quantities.proofs.Laws.Order.{min-is}
 use Rattle.tree.specs.declared.choose.Edge.{Edge}
-use Rattle.tree.specs.Arrays.{pointAt}
-use Rattle.tree.specs.Planning.{nearer}
-use Rattle.tree.specs.Choice.{farAt, goesBefore, firstOf, edgeTo, BestEnd, BestEdge, SinkEnd}
+use Rattle.tree.specs.SmallestSlack.{score}
+use Rattle.tree.specs.Choice.{goesBefore, firstOf, edgeTo, BestEnd, BestEdge, SinkEnd, SinkFrom, AnyEnd, NoneRoomier, NoRoom, FirstRoomy}
 use Rattle.tree.proofs.Laws.Sums.{equal?}
+use Rattle.tree.proofs.Laws.Comparing.{room-less}
 use Rattle.tree.proofs.Laws.Ties.{Ahead, ahead-self, ahead-trans, ahead-one, Before, before-self, before-trans, nearer-says, byDistance}
-
--- an edge of less score goes behind
-pub less-behind : (a x : Edge) → ltZ (a .score .0) (x .score .0) ≡ true → firstOf a x ≡ x
-less-behind a x e = λ i. cond (tests (below i) (e i)) a x
-  where
-    below : ltZ (x .score .0) (a .score .0) ≡ false
-    below = ltZ-not {a = x .score .0} {b = a .score .0} (omega (arith, whole))
-
-    tests : Bool → Bool → Bool
-    tests p q = cond p true (cond q false (nearer (a .far .0) (x .far .0) (ltb (a .end) (x .end))))
-
--- an edge by its parts
-pub edge-is : (f : ℕ → ℤ) (d : ℕ → ℕ) (x : Edge) (u : ℕ) → x .end ≡ u → x .score .0 ≡ f u → x .far .0 ≡ d u → x ≡ edgeTo f d u
-edge-is f d x u p q r i = record { end = p i; score = record { 0 = q i }; far = record { 0 = r i } }
-
--- how far the ends are: a sink at its own place, a branch point at the root's
-module _ (n : ℕ) (xs ys : List ℤ) (s v : ℕ) where
-  abbrev from : Bool → ℕ
-  from t = distance (pointAt xs ys (cond t 0 v)) (pointAt xs ys s)
-
-  pub far-sink : v ≤ n → distance (pointAt xs ys v) (pointAt xs ys s) ≡ farAt n xs ys s v
-  far-sink l = ap from (sym (le-ltb n v l))
-
-  pub far-branch-point : n < v → farAt n xs ys s v ≡ distance (pointAt xs ys 0) (pointAt xs ys s)
-  far-branch-point l = ap from (lt-ltb n v l)
-
--- the sinks that stand at the places i to m - 1 of their order
-abbrev pub SinkFrom : List ℕ → ℕ → ℕ → ℕ → Type 0
-SinkFrom sinks i m v = (h : ℕ) × (i ≤ h) × (h < m) × (getD sinks h 0 ≡ v)
 
 module _ (f : ℕ → ℤ) (d : ℕ → ℕ) where
   -- the edge to r comes no later than the one to u
@@ -137,68 +108,85 @@ module _ (f : ℕ → ℤ) (d : ℕ → ℕ) where
     },
   )
 
--- ---- the branch points, by number
+-- ---- the branch points, by number: none below b has room, nor has b
+pub next-no-room : (c : ℤ) (slacks : List ℤ) (w : ℤ) (n b : ℕ) → NoRoom c slacks w n b → ltZ (getD slacks b (pos 0) -ℤ c) w ≡ true → NoRoom c slacks w n (b + 1)
+next-no-room c slacks w n b below e v l h = go (equal? v b)
+  where
+    go : (v ≡ b) ⊎ (v ≢ b) → ltZ (getD slacks v (pos 0) -ℤ c) w ≡ true
+    go (inl q) = ap (λ (u : ℕ). ltZ (getD slacks u (pos 0) -ℤ c) w) q ∙ e
+    go (inr q) = below v l (omega arith)
 
--- the given ends, and the numbers above n and below b
-abbrev pub Upto : (ℕ → Type 0) → ℕ → ℕ → ℕ → Type 0
-Upto Ends n b v = Ends v ⊎ ((n < v) × (v < b))
+-- ---- the branch points: none scores more than the best sink, and all are as far as the root
+module _ (c : ℤ) (n k : ℕ) (sinks : List ℕ) (slacks : List ℤ) (d : ℕ → ℕ) (x : Edge) {far : ℕ} (small : (i : ℕ) → i < suc k → getD sinks i 0 ≤ n)
+    (same : (b : ℕ) → n < b → d b ≡ far) (roomier : NoneRoomier n k sinks slacks) (B : BestEdge (SinkEnd sinks (suc k)) (score c slacks) d x) where
+  abbrev f : ℕ → ℤ
+  f = score c slacks
 
-module _ (f : ℕ → ℤ) (d : ℕ → ℕ) {Ends : ℕ → Type 0} (n : ℕ) where
-  pub none-upto : (b : ℕ) (x : Edge) → b ≡ n + 1 → BestEdge Ends f d x → BestEdge (Upto Ends n b) f d x
-  none-upto b x e B = best-enough f d x B (λ v w. inl w) (λ v w. go v w)
+  score-is : x .score .0 ≡ f (x .end)
+  score-is = ap (λ (y : Edge). y .score .0) (B .0)
+
+  far-is : x .far .0 ≡ d (x .end)
+  far-is = ap (λ (y : Edge). y .far .0) (B .0)
+
+  none-above : (v : ℕ) → n < v → v ≤ n + k → f v ≤ℤ f (x .end)
+  none-above v l h =
+      let w = roomier v l h in
+      let u : ℕ = getD sinks (w .0) 0 in
+      let less : getD slacks v (pos 0) ≤ℤ getD slacks u (pos 0) = w .2 in
+      let top : f u ≤ℤ f (x .end) = B .1 .largest u (w .0, w .1, refl) in
+      let e = min-is (getD slacks 0 (pos 0)) (getD slacks v (pos 0) -ℤ c) in
+      let g = min-is (getD slacks 0 (pos 0)) (getD slacks u (pos 0) -ℤ c) in
+      omega (arith, whole, -is (getD slacks v (pos 0)) c, -is (getD slacks u (pos 0)) c)
+
+  end-small : x .end ≤ n
+  end-small = let w = B .1 .inside in omega (arith, small (w .0) (w .1), w .2)
+
+  -- what has no room for the best score scores less
+  no-room : (v : ℕ) → ltZ (getD slacks v (pos 0) -ℤ c) (x .score .0) ≡ true → f v <ℤ f (x .end)
+  no-room v e = subst (λ (z : ℤ). f v <ℤ z) score-is (room-less c slacks v (x .score .0) e)
+
+  -- the best sink leads the branch points
+  sink-best : ((v : ℕ) → n < v → v ≤ n + k → Leads f d (x .end) v) → BestEnd (AnyEnd sinks (suc k) n k) f d (x .end)
+  sink-best lead = best-enough f d x B (λ v w. inl w) (λ v w. go v w) .1
     where
-      go : (v : ℕ) → Upto Ends n b v → Leads f d (x .end) v ⊎ Ends v
+      go : (v : ℕ) → AnyEnd sinks (suc k) n k v → Leads f d (x .end) v ⊎ SinkEnd sinks (suc k) v
       go v (inl w) = inr w
-      go v (inr l) = absurd (omega (arith, l))
+      go v (inr h) = inl (lead v (h .0) (h .1))
 
-  pub next-upto : (b : ℕ) (x r : Edge) → n < b → BestEdge (Upto Ends n b) f d x → r ≡ firstOf (edgeTo f d b) x → BestEdge (Upto Ends n (b + 1)) f d r
-  next-upto b x r l B e = best-more f d x B keep b r e (inr (omega arith, omega arith)) (λ v w. go v w (equal? v b))
+  pub root-no-nearer : ltb far (x .far .0) ≡ false → BestEnd (AnyEnd sinks (suc k) n k) f d (x .end)
+  root-no-nearer e = sink-best (λ v l h. record {
+    more = none-above v l h;
+    tied = λ q. record { near = omega (arith, ltb-false far (x .far .0) e, far-is, same v l); low = λ q. omega (arith, end-small) };
+  })
+
+  pub root-nearer : (r : ℕ) → ltb far (x .far .0) ≡ true → FirstRoomy c slacks (x .score .0) n k (x .end) r → BestEnd (AnyEnd sinks (suc k) n k) f d r
+  root-nearer r e (inr w) = subst (BestEnd (AnyEnd sinks (suc k) n k) f d) (sym (w .0)) (sink-best (λ v l h. behind v (no-room v (w .1 v l (omega arith)))))
     where
-      keep : (v : ℕ) → Upto Ends n b v → Upto Ends n (b + 1) v
-      keep v (inl w) = inl w
-      keep v (inr h) = inr (omega (arith, h), omega (arith, h))
-
-      go : (v : ℕ) → Upto Ends n (b + 1) v → (v ≡ b) ⊎ (v ≢ b) → (v ≡ b) ⊎ Upto Ends n b v
-      go v w (inl q) = inl q
-      go v (inl w) (inr q) = inr (inl w)
-      go v (inr h) (inr q) = inr (inr (omega (arith, h), omega (arith, h)))
-
-  -- all numbers above n up to n + k: each from b on comes no earlier
-  pub all-upto : (k b : ℕ) (x : Edge) → b ≤ n + k + 1 → BestEdge (Upto Ends n b) f d x
-      → ((v : ℕ) → b ≤ v → v ≤ n + k → Leads f d (x .end) v) → BestEdge (λ (v : ℕ). Ends v ⊎ ((n < v) × (v ≤ n + k))) f d x
-  all-upto k b x l B rest = best-enough f d x B keep (λ v w. go v w (decLe b v))
+      behind : (v : ℕ) → f v <ℤ f (x .end) → Leads f d (x .end) v
+      behind v q = record { more = omega (arith, whole); tied = λ t. absurd (omega (arith, whole)) }
+  root-nearer r e (inl w) = leads-best f d r (inr (w .0, w .1)) (λ v h. go v h) .1
     where
-      keep : (v : ℕ) → Upto Ends n b v → Ends v ⊎ ((n < v) × (v ≤ n + k))
-      keep v (inl w) = inl w
-      keep v (inr h) = inr (omega (arith, h), omega (arith, h))
+      near : far < x .far .0
+      near = ltb-true far (x .far .0) e
 
-      go : (v : ℕ) → Ends v ⊎ ((n < v) × (v ≤ n + k)) → Dec (b ≤ v) → Leads f d (x .end) v ⊎ Upto Ends n b v
-      go v (inl w) q = inr (inl w)
-      go v (inr h) (yes q) = inl (rest v q (h .1))
-      go v (inr h) (no q) = inr (inr (h .0, omega arith))
+      as-good : f r ≡ f (x .end)
+      as-good =
+          let h : f r ≤ℤ f (x .end) = none-above r (w .0) (w .1) in
+          let t = w .2 in
+          let top = min-is (getD slacks 0 (pos 0)) (getD slacks r (pos 0) -ℤ c) in
+          let own = min-is (getD slacks 0 (pos 0)) (getD slacks (x .end) (pos 0) -ℤ c) in
+          omega (arith, whole, score-is)
 
-  -- no f is above `worst`, and all numbers above n are equally far: where x is as good in both, no number from b on goes before it
-  pub not-beaten : (worst : ℤ) (far b : ℕ) (x : Edge) → n < b → BestEdge (Upto Ends n b) f d x → ltZ (x .score .0) worst || ltb far (x .far .0) ≡ false
-      → ((v : ℕ) → f v ≤ℤ worst) → ((v : ℕ) → n < v → d v ≡ far) → ((v : ℕ) → Ends v → v ≤ n) → (v : ℕ) → b ≤ v → Leads f d (x .end) v
-  not-beaten worst far b x l B e top same low v q = go (ltZ (x .score .0) worst) (ltb far (x .far .0)) refl refl e
-    where
-      before-b : Upto Ends n b (x .end) → x .end < b
-      before-b (inl w) = omega (arith, low (x .end) w)
-      before-b (inr h) = h .1
+      first : Leads f d r (x .end)
+      first = record { more = omega (arith, whole, as-good); tied = λ q. record { near = omega (arith, near, far-is, same r (w .0)); low = λ q. absurd (omega (arith, near, far-is, same r (w .0))) } }
 
-      score-is : x .score .0 ≡ f (x .end)
-      score-is = ap (λ (y : Edge). y .score .0) (B .0)
+      low : (v : ℕ) → n < v → f v ≡ f r → Dec (r ≤ v) → r ≤ v
+      low v l q (yes h) = h
+      low v l q (no h) = let z : f v <ℤ f (x .end) = no-room v (w .3 v l (omega arith)) in absurd (omega (arith, whole, as-good))
 
-      far-is : x .far .0 ≡ d (x .end)
-      far-is = ap (λ (y : Edge). y .far .0) (B .0)
-
-      go : (s t : Bool) → ltZ (x .score .0) worst ≡ s → ltb far (x .far .0) ≡ t → s || t ≡ false → Leads f d (x .end) v
-      go true t es et h = let z : _≡_ {A = ℕ} 0 1 = cc in absurd (omega arith)
-      go false true es et h = let z : _≡_ {A = ℕ} 0 1 = cc in absurd (omega arith)
-      go false false es et h =
-          let i : f v ≤ℤ worst = top v in
-          let j : x .end < b = before-b (B .1 .inside) in
-          record {
-            more = omega (arith, whole, score-is);
-            tied = λ t. record { near = omega (arith, ltb-false far (x .far .0) et, far-is, same v (omega arith)); low = λ t. omega arith };
-          }
+      go : (v : ℕ) → AnyEnd sinks (suc k) n k v → Leads f d r v
+      go v (inl h) = leads-trans f d r (x .end) v first (best-leads f d (B .1) v h)
+      go v (inr h) = record {
+        more = let z : f v ≤ℤ f (x .end) = none-above v (h .0) (h .1) in omega (arith, whole, as-good);
+        tied = λ q. record { near = omega (arith, same v (h .0), same r (w .0)); low = λ t. low v (h .0) q (decLe r v) };
+      }

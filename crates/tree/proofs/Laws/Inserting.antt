@@ -27,11 +27,11 @@ use Rattle.tree.specs.Limits.{positionLimit, InRange}
 use Rattle.tree.specs.Arrays.{pointAt, parentsOf, LeavesUp, Below, Chained}
 use Rattle.tree.specs.SmallestSlack.{Gathered, InTree, treeAfter, score, nextSink}
 use Rattle.tree.specs.Insertion.{Ready, Lined, Placed, Inserted, Leveled, SplitsNext}
-use Rattle.tree.specs.Choice.{farAt, BestEnd, SinkEnd, AnyEnd}
+use Rattle.tree.specs.Choice.{farAt, BestEnd, SinkEnd, AnyEnd, NoneRoomier}
 use Rattle.tree.proofs.Laws.Sums.{delta-self, delta-ne, equal?, down-in, down-low, down-once}
 use Rattle.tree.proofs.Laws.AnySplit.{meet}
 use Rattle.tree.proofs.Laws.Arrays.{parents-length, parents-at}
-use Rattle.tree.proofs.Laws.Gathering.{gathered-if, gathered-sink, gathered-score, gathered-within}
+use Rattle.tree.proofs.Laws.Gathering.{gathered-if, gathered-least, gathered-sink, gathered-score, gathered-within}
 use Rattle.tree.proofs.Laws.Growing.{Inner, parent-inner, hops-up}
 use Rattle.tree.proofs.Laws.Insertion.{Least}
 use Rattle.tree.proofs.Laws.KraftSums.{depthIn}
@@ -43,7 +43,7 @@ use Rattle.tree.proofs.Laws.SinkEdge.{meet-self}
 use Rattle.tree.proofs.Laws.Ties.{Before, best-unique}
 use Rattle.tree.proofs.Laws.Settling.{range-count, settling}
 use Rattle.tree.proofs.Laws.Theorem1.{plan-legal}
-use Rattle.tree.proofs.Laws.TreeAfter.{t, inserted-count, to-vertex, from-vertex, vertex-in, path-length, worst-least, enlarged, parent-is}
+use Rattle.tree.proofs.Laws.TreeAfter.{t, to-vertex, from-vertex, vertex-in, slack-is, path-length, worst-least, enlarged, parent-is}
 use Rattle.tree.proofs.Laws.Upward.{SplitAt, grown-up, putIn, put-in, chained-put}
 use Rattle.tree.proofs.Laws.Walks.{hops, hops-zero}
 use Rattle.tree.proofs.Laws.WorstAfter.{LeastBelow, least-one, before}
@@ -224,15 +224,27 @@ module _ {N : Net} {c : ℤ} {n : ℕ} {own xs ys : List ℤ} {sinks : List ℕ}
   end-old v (inl w) = subst Old (w .2) (rank-old (w .0) (w .1))
   end-old v (inr r) = omega (arith, down-once (size N) k v (omega (arith, r .0, R .size-is)) (omega (arith, r .1, R .size-is)))
 
+  in-end : (v : ℕ) → count v (inserted N k) ≢ 0 → SinkEnd sinks (suc k) v
+  in-end = newest-each (order N) (SinkEnd sinks (suc k)) (suc k) (λ i l. (i, l, line-at L i (omega arith)))
+
   old-end : (v : ℕ) → Old v → AnyEnd sinks (suc k) n k v
   old-end v h = go (equal? (count v (inserted N k)) 0)
     where
       go : (count v (inserted N k) ≡ 0) ⊎ (count v (inserted N k) ≢ 0) → AnyEnd sinks (suc k) n k v
       go (inl e) = let d : (size N < v) × (v ≤ size N + k) = down-in (size N) k v (omega arith) in inr (omega (arith, d, R .size-is))
-      go (inr d) = inl (newest-each (order N) (SinkEnd sinks (suc k)) (suc k) (λ i l. (i, l, line-at L i (omega arith))) v d)
+      go (inr d) = inl (in-end v d)
 
   pub end-within : (v : ℕ) → AnyEnd sinks (suc k) n k v → Within timeReach (getD slacks v (pos 0))
   end-within v h = let w : Within termReach (getD slacks v (pos 0)) = gathered-within N (R .in-range) k low G v (from-vertex N a1 k low v (end-old v h)) in omega (arith, whole)
+
+  -- the least slack under a branch point is that of a sink that is in
+  pub none-roomier : NoneRoomier n k sinks slacks
+  none-roomier b l h =
+      let under = gathered-least N a1 k low G b (end-old b (inr (l, h))) in
+      let w : SinkEnd sinks (suc k) (under .at) = in-end (under .at) (under .in-list) in
+      let e : getD slacks (getD sinks (w .0) 0) (pos 0) ≡ getD slacks b (pos 0) =
+      ap (λ (u : ℕ). getD slacks u (pos 0)) (w .2) ∙ gathered-sink N a1 k low G (under .at) (under .in-list) ∙ slack-is N a1 k low (under .at) (under .in-list) ∙ under .is in
+      (w .0, w .1, omega (arith, whole, e))
 
   score-is : (v : ℕ) → Old v → worstAfter N (inserted N k) k Q next v ≡ score c slacks v
   score-is v h = enlarged N a1 k low kS v ∙ sym (gathered-score N a1 k low G kS v h) ∙ ap (λ (z : ℤ). score z slacks v) (sym (R .branch-is))

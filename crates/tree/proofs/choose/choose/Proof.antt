@@ -5,7 +5,7 @@ use native.Mathlib.Omega.{arith}
 use borrow.Author.Needs.{needs}
 use Rattle.tree.specs.SmallestSlack.{score}
 use Rattle.tree.specs.Choice.{farAt, BestEdge, SinkEnd}
-use Rattle.tree.proofs.Laws.Choosing.{far-branch-point}
+use Rattle.tree.proofs.Laws.Comparing.{far-branch-point}
 use Rattle.tree.proofs.choose.choose.Statement.{statement}
 use Rattle.tree.proofs.choose.choose.Tie as tie
 
@@ -26,7 +26,7 @@ far-apart-requires c κs =
 or-branch-point-requires : tie.Need-or-branch-point-requires
 or-branch-point-requires c κs =
     let p = c .before .before .before .pre in
-    ((omega arith, omega arith, omega arith, p .0 .7), p .1 .1 .1)
+    ((omega arith, omega arith, omega arith, p .0 .7), p .1 .1 .1 .0)
 
 returns : tie.Need-returns
 returns c =
@@ -37,7 +37,7 @@ returns c =
     let one : a .k + 1 ≡ suc (a .k) = omega arith in
     let B = subst (λ (m : ℕ). BestEdge (SinkEnd (a .sinks .now) m) (score (a .branch .0) (a .slacks .now)) d (nearest .result)) one (nearest .ensures) in
     c .or-branch-point .ensures (a .sinks .now) d (λ i l. s .pre .1 .1 .0 i l .0)
-    (λ v l. far-branch-point (a .n) (a .xs .now) (a .ys .now) (a .s) v l ∙ sym (c .before .far-apart .ensures)) B .1
+    (λ v l. far-branch-point (a .n) (a .xs .now) (a .ys .now) (a .s) v l ∙ sym (c .before .far-apart .ensures)) (s .pre .1 .1 .1 .1) B
 
 pub choose-spec : {M : Type 1} → statement M
 choose-spec =

@@ -6,7 +6,7 @@ use native.Mathlib.Omega.{arith}
 use lib.ListN.{length, getD}
 use Rattle.quantities.specs.Linear.{whole}
 use Rattle.quantities.specs.Reach.{Within, termReach}
-use Rattle.tree.proofs.Laws.Inserting.{points-within, end-within, end-place, s-next, splits-next, next-order}
+use Rattle.tree.proofs.Laws.Inserting.{points-within, end-within, none-roomier, end-place, s-next, splits-next, next-order}
 use Rattle.tree.proofs.Laws.NetArrays.{branch-within, few-sinks, line-in}
 use Rattle.tree.proofs.Laws.Regathering.{place-in, parent-in}
 use borrow.Author.Needs.{needs}
@@ -34,7 +34,10 @@ choose-requires c κs =
         points-within (r .0 .in-range) (r .0 .size-is) (r .2),
         (
           (λ i l. (line-in (r .1) (r .0 .size-is) i (omega arith) .1, end-within (r .0) (r .1) (r .2) (r .3 .inserted) (r .3 .gathered) kn (getD (a .sinks .now) i 0) (inl (i, l, refl)))),
-          λ b l h. end-within (r .0) (r .1) (r .2) (r .3 .inserted) (r .3 .gathered) kn b (inr (l, h)),
+          (
+            (λ b l h. end-within (r .0) (r .1) (r .2) (r .3 .inserted) (r .3 .gathered) kn b (inr (l, h))),
+            none-roomier (r .0) (r .1) (r .2) (r .3 .inserted) (r .3 .gathered) kn,
+          ),
         ),
       ),
     )
