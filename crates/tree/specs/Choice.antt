@@ -6,11 +6,12 @@ use mathlib.Core.Logic.{_⊎_}
 use mathlib.Core.List.{List}
 use lib.ListN.{getD}
 use lib.Dec.{ltb}
-use lib.IntN.{ℤ, pos, _-ℤ_}
+use lib.IntN.{ℤ, pos}
 use lib.Signed.{_≤ℤ_, ltZ}
 use Rattle.quantities.specs.Distance.{distance}
 use Rattle.tree.specs.declared.choose.Edge.{Edge}
 use Rattle.tree.specs.Planning.{nearer, ranks}
+use Rattle.tree.specs.SmallestSlack.{score}
 use Rattle.tree.specs.Arrays.{pointAt}
 
 -- how far the lower end v is from sink s, a branch point counted at the root's position
@@ -53,11 +54,11 @@ SinkFrom sinks i m v = (h : ℕ) × (i ≤ h) × (h < m) × (getD sinks h 0 ≡ 
 abbrev pub NoneRoomier : ℕ → ℕ → List ℕ → List ℤ → Type 0
 NoneRoomier n k sinks slacks = (b : ℕ) → n < b → b ≤ n + k → (i : ℕ) × (i < suc k) × (getD slacks b (pos 0) ≤ℤ getD slacks (getD sinks i 0) (pos 0))
 
--- no branch point below b has room for w
-abbrev pub NoRoom : ℤ → List ℤ → ℤ → ℕ → ℕ → Type 0
-NoRoom branch slacks w n b = (v : ℕ) → n < v → v < b → ltZ (getD slacks v (pos 0) -ℤ branch) w ≡ true
+-- no branch point below b scores w
+abbrev pub NoneAsGood : ℤ → List ℤ → ℤ → ℕ → ℕ → Type 0
+NoneAsGood branch slacks w n b = (v : ℕ) → n < v → v < b → ltZ (score branch slacks v) w ≡ true
 
--- r is the lowest of k branch points that has room for w, or u where none has
-abbrev pub FirstRoomy : ℤ → List ℤ → ℤ → ℕ → ℕ → ℕ → ℕ → Type 0
-FirstRoomy branch slacks w n k u r =
-    ((n < r) × (r ≤ n + k) × (ltZ (getD slacks r (pos 0) -ℤ branch) w ≡ false) × NoRoom branch slacks w n r) ⊎ ((r ≡ u) × NoRoom branch slacks w n (suc (n + k)))
+-- r is the lowest of k branch points that scores w, or u where none does
+abbrev pub FirstAsGood : ℤ → List ℤ → ℤ → ℕ → ℕ → ℕ → ℕ → Type 0
+FirstAsGood branch slacks w n k u r =
+    ((n < r) × (r ≤ n + k) × (ltZ (score branch slacks r) w ≡ false) × NoneAsGood branch slacks w n r) ⊎ ((r ≡ u) × NoneAsGood branch slacks w n (suc (n + k)))

@@ -11,7 +11,7 @@ ghost use Rattle.tree.specs.Net.{Net, size};
 ghost use Rattle.tree.specs.Limits.{positionLimit};
 ghost use Rattle.tree.specs.Arrays.{pointAt};
 ghost use Rattle.tree.specs.SmallestSlack.{InTree, Gathered, score, worstWith};
-ghost use Rattle.tree.specs.Choice.{farAt, goesBefore, firstOf, edgeTo, BestEnd, BestEdge, SinkEnd, SinkFrom, AnyEnd, NoneRoomier, FirstRoomy};
+ghost use Rattle.tree.specs.Choice.{farAt, goesBefore, firstOf, edgeTo, BestEnd, BestEdge, SinkEnd, SinkFrom, AnyEnd, NoneRoomier, FirstAsGood};
 use crate::measure::point;
 use quantities::length::Length;
 use quantities::point::distance;
@@ -203,15 +203,23 @@ fn best_sink(
     or_nearer_sinks(best, n, i, xs, ys, sinks, slacks, branch, s)
 }
 
-// The lowest of the branch points n+1 to n+k that has room for the score of `best`, or the end of `best` where none has.
+// Whether the edge to v scores less than `least`.
+fn scores_less(slacks: &[i64], branch: Time, v: usize, least: Time) -> bool
+    requires { ⌜ (v < length (now slacks)) × Within timeReach (getD (now slacks) v (pos 0)) × Within timeReach (branch .0) ⌝ }
+    ensures { λ r. ⌜ r ≡ ltZ (score (branch .0) (now (slacks .entry)) v) (least .0) ⌝ }
+{
+    score_of(slacks, branch, v).is_less(least)
+}
+
+// The lowest of the branch points n+1 to n+k that scores as much as `best`, or the end of `best` where none does.
 fn first_as_good(best: Edge, n: usize, k: usize, slacks: &[i64], branch: Time) -> usize
     requires { ⌜ (n ≤ 512) × (k ≤ n) × (n + k < length (now slacks)) × Within timeReach (branch .0) ⌝ }
     requires { ⌜ ((b : ℕ) → n < b → b ≤ n + k → Within timeReach (getD (now slacks) b (pos 0))) ⌝ }
-    ensures { λ r. ⌜ FirstRoomy (branch .0) (now (slacks .entry)) (best .score .0) n k (best .end) r ⌝ }
+    ensures { λ r. ⌜ FirstAsGood (branch .0) (now (slacks .entry)) (best .score .0) n k (best .end) r ⌝ }
 {
     let score = best.score;
     let mut b = n + 1;
-    while b <= n + k && lacks_room(slacks, branch, b, score) {
+    while b <= n + k && scores_less(slacks, branch, b, score) {
         b += 1;
     }
     if b <= n + k { b } else { best.end }

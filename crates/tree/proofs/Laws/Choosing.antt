@@ -15,9 +15,8 @@ use Rattle.quantities.specs.Linear.{whole, -is}
 use Rattle.quantities.proofs.Laws.Order.{min-is}
 use Rattle.tree.specs.declared.choose.Edge.{Edge}
 use Rattle.tree.specs.SmallestSlack.{score}
-use Rattle.tree.specs.Choice.{goesBefore, firstOf, edgeTo, BestEnd, BestEdge, SinkEnd, SinkFrom, AnyEnd, NoneRoomier, NoRoom, FirstRoomy}
+use Rattle.tree.specs.Choice.{goesBefore, firstOf, edgeTo, BestEnd, BestEdge, SinkEnd, SinkFrom, AnyEnd, NoneRoomier, NoneAsGood, FirstAsGood}
 use Rattle.tree.proofs.Laws.Sums.{equal?}
-use Rattle.tree.proofs.Laws.Comparing.{room-less}
 use Rattle.tree.proofs.Laws.Ties.{Ahead, ahead-self, ahead-trans, ahead-one, Before, before-self, before-trans, nearer-says, byDistance}
 
 module _ (f : ℕ → ℤ) (d : ℕ → ℕ) where
@@ -108,12 +107,12 @@ module _ (f : ℕ → ℤ) (d : ℕ → ℕ) where
     },
   )
 
--- ---- the branch points, by number: none below b has room, nor has b
-pub next-no-room : (c : ℤ) (slacks : List ℤ) (w : ℤ) (n b : ℕ) → NoRoom c slacks w n b → ltZ (getD slacks b (pos 0) -ℤ c) w ≡ true → NoRoom c slacks w n (b + 1)
-next-no-room c slacks w n b below e v l h = go (equal? v b)
+-- ---- the branch points, by number: none below b scores w, nor does b
+pub next-none : (c : ℤ) (slacks : List ℤ) (w : ℤ) (n b : ℕ) → NoneAsGood c slacks w n b → ltZ (score c slacks b) w ≡ true → NoneAsGood c slacks w n (b + 1)
+next-none c slacks w n b below e v l h = go (equal? v b)
   where
-    go : (v ≡ b) ⊎ (v ≢ b) → ltZ (getD slacks v (pos 0) -ℤ c) w ≡ true
-    go (inl q) = ap (λ (u : ℕ). ltZ (getD slacks u (pos 0) -ℤ c) w) q ∙ e
+    go : (v ≡ b) ⊎ (v ≢ b) → ltZ (score c slacks v) w ≡ true
+    go (inl q) = ap (λ (u : ℕ). ltZ (score c slacks u) w) q ∙ e
     go (inr q) = below v l (omega arith)
 
 -- ---- the branch points: none scores more than the best sink, and all are as far as the root
@@ -141,9 +140,8 @@ module _ (c : ℤ) (n k : ℕ) (sinks : List ℕ) (slacks : List ℤ) (d : ℕ �
   end-small : x .end ≤ n
   end-small = let w = B .1 .inside in omega (arith, small (w .0) (w .1), w .2)
 
-  -- what has no room for the best score scores less
-  no-room : (v : ℕ) → ltZ (getD slacks v (pos 0) -ℤ c) (x .score .0) ≡ true → f v <ℤ f (x .end)
-  no-room v e = subst (λ (z : ℤ). f v <ℤ z) score-is (room-less c slacks v (x .score .0) e)
+  less : (v : ℕ) → ltZ (f v) (x .score .0) ≡ true → f v <ℤ f (x .end)
+  less v e = subst (λ (z : ℤ). f v <ℤ z) score-is (omega (arith, whole))
 
   -- the best sink leads the branch points
   sink-best : ((v : ℕ) → n < v → v ≤ n + k → Leads f d (x .end) v) → BestEnd (AnyEnd sinks (suc k) n k) f d (x .end)
@@ -159,8 +157,8 @@ module _ (c : ℤ) (n k : ℕ) (sinks : List ℕ) (slacks : List ℤ) (d : ℕ �
     tied = λ q. record { near = omega (arith, ltb-false far (x .far .0) e, far-is, same v l); low = λ q. omega (arith, end-small) };
   })
 
-  pub root-nearer : (r : ℕ) → ltb far (x .far .0) ≡ true → FirstRoomy c slacks (x .score .0) n k (x .end) r → BestEnd (AnyEnd sinks (suc k) n k) f d r
-  root-nearer r e (inr w) = subst (BestEnd (AnyEnd sinks (suc k) n k) f d) (sym (w .0)) (sink-best (λ v l h. behind v (no-room v (w .1 v l (omega arith)))))
+  pub root-nearer : (r : ℕ) → ltb far (x .far .0) ≡ true → FirstAsGood c slacks (x .score .0) n k (x .end) r → BestEnd (AnyEnd sinks (suc k) n k) f d r
+  root-nearer r e (inr w) = subst (BestEnd (AnyEnd sinks (suc k) n k) f d) (sym (w .0)) (sink-best (λ v l h. behind v (less v (w .1 v l (omega arith)))))
     where
       behind : (v : ℕ) → f v <ℤ f (x .end) → Leads f d (x .end) v
       behind v q = record { more = omega (arith, whole); tied = λ t. absurd (omega (arith, whole)) }
@@ -173,8 +171,6 @@ module _ (c : ℤ) (n k : ℕ) (sinks : List ℕ) (slacks : List ℤ) (d : ℕ �
       as-good =
           let h : f r ≤ℤ f (x .end) = none-above r (w .0) (w .1) in
           let t = w .2 in
-          let top = min-is (getD slacks 0 (pos 0)) (getD slacks r (pos 0) -ℤ c) in
-          let own = min-is (getD slacks 0 (pos 0)) (getD slacks (x .end) (pos 0) -ℤ c) in
           omega (arith, whole, score-is)
 
       first : Leads f d r (x .end)
@@ -182,7 +178,7 @@ module _ (c : ℤ) (n k : ℕ) (sinks : List ℕ) (slacks : List ℤ) (d : ℕ �
 
       low : (v : ℕ) → n < v → f v ≡ f r → Dec (r ≤ v) → r ≤ v
       low v l q (yes h) = h
-      low v l q (no h) = let z : f v <ℤ f (x .end) = no-room v (w .3 v l (omega arith)) in absurd (omega (arith, whole, as-good))
+      low v l q (no h) = let z : f v <ℤ f (x .end) = less v (w .3 v l (omega arith)) in absurd (omega (arith, whole, as-good))
 
       go : (v : ℕ) → AnyEnd sinks (suc k) n k v → Leads f d r v
       go v (inl h) = leads-trans f d r (x .end) v first (best-leads f d (B .1) v h)

@@ -31,7 +31,7 @@ less-behind a x e = λ i. cond (byScores a x (below i) (e i)) a x
 
 -- the edge to v, where what is left under v is less than w, or no less than the worst slack
 module _ (c : ℤ) (slacks : List ℤ) (v : ℕ) where
-  pub room-less : (w : ℤ) → ltZ (getD slacks v (pos 0) -ℤ c) w ≡ true → score c slacks v <ℤ w
+  room-less : (w : ℤ) → ltZ (getD slacks v (pos 0) -ℤ c) w ≡ true → score c slacks v <ℤ w
   room-less w e = omega (arith, whole, min-is (getD slacks 0 (pos 0)) (getD slacks v (pos 0) -ℤ c))
 
   pub room-worst : (w : ℤ) → w ≡ getD slacks 0 (pos 0) → ltZ (getD slacks v (pos 0) -ℤ c) w ≡ false → w ≡ score c slacks v

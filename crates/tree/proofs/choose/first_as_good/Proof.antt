@@ -1,20 +1,19 @@
--- `choose::first_as_good` meets its contract. The loop's invariant: no branch point below b has room. The measure is what is left of n + k + 1. Assumes nothing.
+-- `choose::first_as_good` meets its contract. The loop's invariant: no branch point below b scores as much. The measure is what is left of n + k + 1. Assumes nothing.
 use Prim.Native.Nat.{_+_, _-_, _≤_, _<_}
 use mathlib.Core.Path.{_≡_, refl, sym, _∙_}
 use mathlib.Core.Bool.{false}
 use mathlib.Core.Logic.{inl, inr, ⊎-elim}
 use native.Mathlib.Omega.{arith}
 use borrow.Author.Needs.{needs}
-use lib.ListN.{getD}
-use lib.IntN.{pos, _-ℤ_}
 use lib.Signed.{ltZ}
-use Rattle.tree.specs.Choice.{NoRoom}
-use Rattle.tree.proofs.Laws.Choosing.{next-no-room}
+use Rattle.tree.specs.SmallestSlack.{score}
+use Rattle.tree.specs.Choice.{NoneAsGood}
+use Rattle.tree.proofs.Laws.Choosing.{next-none}
 use Rattle.tree.proofs.choose.first_as_good.Statement.{statement}
 use Rattle.tree.proofs.choose.first_as_good.Tie as tie
 
 abbrev Inv-loop : tie.InvT-loop
-Inv-loop best n k slacks branch score b₀ b = (n < b) × (b ≤ n + k + 1) × NoRoom (branch .0) slacks (best .score .0) n b
+Inv-loop best n k slacks branch score b₀ b = (n < b) × (b ≤ n + k + 1) × NoneAsGood (branch .0) slacks (best .score .0) n b
 
 abbrev μ-loop : tie.MeasureT-loop
 μ-loop best n k slacks branch score b₀ b = n + k + 1 - b
@@ -28,8 +27,8 @@ loop-holds c = (omega arith, omega arith, λ v l h. absurd (omega arith))
 add-loop : tie.Need-add-loop Inv-loop μ-loop
 add-loop c = search needs
 
-lacks-room-requires : tie.Need-lacks-room-requires Inv-loop μ-loop
-lacks-room-requires c κs =
+scores-less-requires : tie.Need-scores-less-requires Inv-loop μ-loop
+scores-less-requires c κs =
     let p = c .before .before .before .pre in
     let l = c .before .loop in
     (omega arith, p .1 (l .b) (omega arith) (omega arith), p .0 .3)
@@ -44,7 +43,7 @@ loop-again : tie.Need-loop-again Inv-loop μ-loop
 loop-again c =
     let a = c .before .before .before .before .before .args in
     let l = c .before .before .before .loop in
-    (omega arith, omega arith, next-no-room (a .branch .0) (a .slacks .now) (a .best .score .0) (a .n) (l .b) (l .inv .2) (sym (c .before .lacks-room .ensures) ∙ c .if1 .taken))
+    (omega arith, omega arith, next-none (a .branch .0) (a .slacks .now) (a .best .score .0) (a .n) (l .b) (l .inv .2) (sym (c .before .scores-less .ensures) ∙ c .if1 .taken))
 
 add-if2 : tie.Need-add-if2 Inv-loop μ-loop
 add-if2 c = search needs
@@ -53,9 +52,9 @@ returns : tie.Need-returns Inv-loop μ-loop
 returns c =
     let a = c .before .before .before .before .args in
     let l = c .before .before .loop in
-    let room : ltZ (getD (a .slacks .now) (l .b) (pos 0) -ℤ a .branch .0) (a .best .score .0) ≡ false =
+    let enough : ltZ (score (a .branch .0) (a .slacks .now) (l .b)) (a .best .score .0) ≡ false =
     ⊎-elim (λ t. sym (t .1 .ensures) ∙ t .2 .left) (λ t. absurd (omega (arith, t .left))) (c .before .loop-test .came) in
-    inl (l .inv .0, c .if2 .taken, room, l .inv .2)
+    inl (l .inv .0, c .if2 .taken, enough, l .inv .2)
 
 returns-2 : tie.Need-returns-2 Inv-loop μ-loop
 returns-2 c = inr (refl, λ v l h. c .before .before .loop .inv .2 v l (omega arith))
@@ -69,7 +68,7 @@ first-as-good-spec =
     add-b
     loop-holds
     add-loop
-    lacks-room-requires
+    scores-less-requires
     add-b-2
     loop-less
     loop-again
