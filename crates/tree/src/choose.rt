@@ -4,14 +4,14 @@ ghost use mathlib.Core.List.{List};
 ghost use Prim.Native.Nat.{ℕ, suc, _+_, _≤_, _<_};
 ghost use lib.ListN.{length, getD};
 ghost use lib.IntN.{pos, _-ℤ_};
-ghost use lib.Signed.{ltZ};
+ghost use lib.Signed.{ltZ, _≤ℤ_};
 ghost use Rattle.quantities.specs.Distance.{distance};
 ghost use Rattle.quantities.specs.Reach.{Within, PointWithin, timeReach};
 ghost use Rattle.tree.specs.Net.{Net, size};
 ghost use Rattle.tree.specs.Limits.{positionLimit};
 ghost use Rattle.tree.specs.Arrays.{pointAt};
 ghost use Rattle.tree.specs.SmallestSlack.{InTree, Gathered, score, worstWith};
-ghost use Rattle.tree.specs.Choice.{farAt, goesBefore, firstOf, edgeTo, BestEnd, BestEdge, SinkEnd, SinkFrom, AnyEnd, NoneRoomier, FirstAsGood};
+ghost use Rattle.tree.specs.Choice.{farAt, firstOf, edgeTo, BestEnd, BestEdge, SinkEnd, SinkFrom, AnyEnd, NoneRoomier, FirstAsGood};
 use crate::measure::point;
 use quantities::length::Length;
 use quantities::point::distance;
@@ -53,37 +53,23 @@ fn far_apart(xs: &[i64], ys: &[i64], u: usize, v: usize) -> Length
     distance(point(xs, ys, u), point(xs, ys, v))
 }
 
-// Whether edge a goes before edge b.
-fn goes_before(a: Edge, b: Edge) -> bool
-    ensures { λ r. ⌜ r ≡ goesBefore a b ⌝ }
-{
-    let more = a.score;
-    let less = b.score;
-    let near = a.far;
-    let away = b.far;
-    if less.is_less(more) {
-        return true;
-    }
-    if more.is_less(less) {
-        return false;
-    }
-    if near.is_less(away) {
-        return true;
-    }
-    if away.is_less(near) {
-        return false;
-    }
-    a.end < b.end
-}
-
-// The one of two edges that goes first.
-fn first_of(a: Edge, b: Edge) -> Edge
+// The nearer of two edges that score the same, or the one of the lower number.
+fn nearer_of(a: Edge, b: Edge) -> Edge
+    requires { ⌜ a .score .0 ≡ b .score .0 ⌝ }
     ensures { λ r. ⌜ r ≡ firstOf a b ⌝ }
 {
-    if goes_before(a, b) { a } else { b }
+    let near = a.far;
+    let away = b.far;
+    if away.is_less(near) {
+        return b;
+    }
+    if near.is_less(away) {
+        return a;
+    }
+    if a.end < b.end { a } else { b }
 }
 
-// The better of the best edge so far and the one to sink u. Where u has too little room for the best score, nothing else is looked at.
+// The better of the best edge so far and the one to sink u: the nearer where both score the same. Where u has too little room for the best score, nothing else is looked at.
 fn or_sink(
     best: Edge,
     n: usize,
@@ -96,19 +82,23 @@ fn or_sink(
 ) -> Edge
     requires { ⌜ (u ≤ n) × (s ≤ n) × (n < length (now xs)) × (n < length (now ys)) × (u < length (now slacks)) ⌝ }
     requires { ⌜ PointWithin positionLimit (pointAt (now xs) (now ys) u) × PointWithin positionLimit (pointAt (now xs) (now ys) s) × Within timeReach (getD (now slacks) u (pos 0)) × Within timeReach (branch .0) ⌝ }
+    requires { ⌜ best .score .0 ≤ℤ getD (now slacks) 0 (pos 0) ⌝ }
     ensures { λ r. ⌜ r ≡ firstOf (edgeTo (score (branch .0) (now (slacks .entry))) (farAt n (now (xs .entry)) (now (ys .entry)) s) u) best ⌝ }
 {
-    if lacks_room(slacks, branch, u, best.score) {
+    let most = best.score;
+    if lacks_room(slacks, branch, u, most) {
         return best;
     }
-    first_of(
-        Edge {
-            end: u,
-            score: score_of(slacks, branch, u),
-            far: far_apart(xs, ys, u, s),
-        },
-        best,
-    )
+    let score = score_of(slacks, branch, u);
+    let made = Edge {
+        end: u,
+        score,
+        far: far_apart(xs, ys, u, s),
+    };
+    if most.is_less(score) {
+        return made;
+    }
+    nearer_of(made, best)
 }
 
 // The better of the best edge so far, which keeps the worst slack, and the one to sink u. No score is above it: u needs room for it, and then the nearer goes first.
@@ -132,17 +122,7 @@ fn or_nearer_sink(
         return best;
     }
     let far = far_apart(xs, ys, u, s);
-    let nearest = best.far;
-    if nearest.is_less(far) {
-        return best;
-    }
-    if far.is_less(nearest) {
-        return Edge { end: u, score, far };
-    }
-    if u < best.end {
-        return Edge { end: u, score, far };
-    }
-    best
+    nearer_of(Edge { end: u, score, far }, best)
 }
 
 // The best edge to one of the sinks, where `found` is the best to one of those from place `left` on. It keeps the worst slack, or none is left.

@@ -29,6 +29,10 @@ less-behind a x e = λ i. cond (byScores a x (below i) (e i)) a x
     below : ltZ (x .score .0) (a .score .0) ≡ false
     below = ltZ-not {a = x .score .0} {b = a .score .0} (omega (arith, whole))
 
+-- an edge of more score goes first
+pub more-first : (a x : Edge) → ltZ (x .score .0) (a .score .0) ≡ true → firstOf a x ≡ a
+more-first a x e = λ i. cond (byScores a x (e i) (ltZ (a .score .0) (x .score .0))) a x
+
 -- the edge to v, where what is left under v is less than w, or no less than the worst slack
 module _ (c : ℤ) (slacks : List ℤ) (v : ℕ) where
   room-less : (w : ℤ) → ltZ (getD slacks v (pos 0) -ℤ c) w ≡ true → score c slacks v <ℤ w

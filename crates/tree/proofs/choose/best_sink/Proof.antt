@@ -5,10 +5,12 @@ use mathlib.Core.Logic.{⊎-elim}
 use native.Mathlib.Omega.{arith}
 use borrow.Author.Needs.{needs}
 use lib.ListN.{getD}
-use lib.IntN.{pos}
-use lib.Signed.{ltZ}
+use lib.IntN.{ℤ, pos}
+use lib.Signed.{_≤ℤ_, ltZ}
 use mir.Facts.{toZ-ofZ}
 use Rattle.quantities.specs.Linear.{fit}
+use Rattle.quantities.proofs.Laws.Order.{min-le-left}
+use Rattle.tree.specs.declared.choose.Edge.{Edge}
 use Rattle.tree.specs.SmallestSlack.{score}
 use Rattle.tree.specs.Choice.{farAt, BestEdge, SinkFrom}
 use Rattle.tree.proofs.Laws.Comparing.{keeps-worst, edge-is, far-sink}
@@ -80,7 +82,9 @@ or-sink-requires c κs =
     let p = c .before .before .before .before .before .before .before .before .before .before .before .pre in
     let l = c .before .before .before .before .loop in
     let q = p .1 .1 (l .i - 1) (omega arith) in
-    ((q .0, omega arith, omega arith, omega arith, q .1), (p .1 .0 _ (q .0), p .1 .0 _ (p .0 .2), q .2, p .0 .6))
+    let a = c .before .before .before .before .before .before .before .before .before .before .before .args in
+    let top = subst (λ (z : ℤ). z ≤ℤ getD (a .slacks .now) 0 (pos 0)) (sym (ap (λ (y : Edge). y .score .0) (l .inv .1 .0))) (min-le-left _ _) in
+    ((q .0, omega arith, omega arith, omega arith, q .1), ((p .1 .0 _ (q .0), p .1 .0 _ (p .0 .2), q .2, p .0 .6), top))
 
 loop-less : tie.Need-loop-less Inv-loop μ-loop
 loop-less c = search needs
