@@ -37,6 +37,11 @@ abbrev pub firstWith : (ℕ → Bool) → List ℕ → Option ℕ
 firstWith test [] = none
 firstWith test (v ∷ l) = cond (test v) (some v) (firstWith test l)
 
+-- those of a list that pass a test
+abbrev pub allWith : (ℕ → Bool) → List ℕ → List ℕ
+allWith test [] = []
+allWith test (v ∷ l) = cond (test v) (v ∷ allWith test l) (allWith test l)
+
 -- the least of some whole numbers (0 of none)
 abbrev pub leastFrom : ℤ → List ℤ → ℤ
 leastFrom x [] = x

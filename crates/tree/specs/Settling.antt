@@ -1,20 +1,19 @@
 -- Settling, and the planned tree: document 01, 'Planning', step 4. Definitions alone.
 use Prim.Native.Nat.{ℕ, zero, suc, _*_}
-use mathlib.Core.Bool.{true, false, cond}
-use mathlib.Core.List.{List, [], _∷_, map}
+use mathlib.Core.Bool.{true, false}
+use mathlib.Core.List.{List, map}
 use lib.ListN.{length, getD}
 use lib.Dec.{leb, eqb}
 use Rattle.quantities.specs.declared.point.Point.{Point}
 use Rattle.quantities.specs.Median.{medianPoint}
-use Rattle.tree.specs.Lists.{range}
+use Rattle.tree.specs.Lists.{range, allWith}
 use Rattle.tree.specs.Net.{Net, size, branchNumbers, sinkAt}
 use Rattle.tree.specs.Tree.{Tree, parentOf}
 use Rattle.tree.specs.Planning.{TieRule, tieRule, planParents}
 
 -- the vertices with parent b, the lowest first
 abbrev pub childrenIn : (ℕ → ℕ) → ℕ → List ℕ → List ℕ
-childrenIn p b [] = []
-childrenIn p b (v ∷ l) = cond (eqb (p v) b) (v ∷ childrenIn p b l) (childrenIn p b l)
+childrenIn p b l = allWith (λ v. eqb (p v) b) l
 
 abbrev pub children : List ℕ → ℕ → List ℕ
 children P b = childrenIn (parentOf P) b (range 1 (length P))

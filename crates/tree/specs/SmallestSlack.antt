@@ -1,14 +1,14 @@
 -- The smallest slack under each vertex: document 02, request 3. Definitions, and the request's promises as one statement.
 use Prim.Native.Nat.{ℕ, suc, _<_}
 use mathlib.Core.Path.{_≡_}
-use mathlib.Core.Bool.{Bool, cond}
+use mathlib.Core.Bool.{Bool}
 use mathlib.Core.Logic.{_↔_, _≢_, _⊎_}
-use mathlib.Core.List.{List, [], _∷_, map}
+use mathlib.Core.List.{List, _∷_, map}
 use lib.ListN.{getD, take}
 use lib.Dec.{ltb}
 use lib.IntN.{ℤ, pos, _-ℤ_}
 use Rattle.quantities.specs.Order.{minℤ}
-use Rattle.tree.specs.Lists.{count, down, least}
+use Rattle.tree.specs.Lists.{count, down, allWith, least}
 use Rattle.tree.specs.Net.{Net, size}
 use Rattle.tree.specs.Tree.{Tree, parent}
 use Rattle.tree.specs.Measures.{path, slack, worstOver}
@@ -38,8 +38,7 @@ abbrev pub isUnder : Tree → ℕ → ℕ → Bool
 isUnder T v s = ltb 0 (count v (0 ∷ path T s))
 
 abbrev pub sinksUnder : Tree → ℕ → List ℕ → List ℕ
-sinksUnder T v [] = []
-sinksUnder T v (s ∷ l) = cond (isUnder T v s) (s ∷ sinksUnder T v l) (sinksUnder T v l)
+sinksUnder T v S = allWith (isUnder T v) S
 
 -- "the least slack of the sinks at or under its vertex in the tree so far": sinks that are not in are left out
 abbrev pub leastUnder : Net → ℕ → ℕ → ℤ

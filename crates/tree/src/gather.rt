@@ -1,4 +1,5 @@
-// The least slack under each vertex and the edges above it, kept as the tree grows: an insertion touches only what stands under the split edge and above it.
+// The least slack under each vertex, gathered as the tree grows (02, request 3). What hangs under a split edge sinks as a whole, so its numbers fall alike;
+// from the new branch point the least is handed up, from child to parent; all other numbers stay. The edges above each vertex tell what hangs under the split one.
 ghost use mathlib.Core.Path.{_≡_};
 ghost use mathlib.Core.Logic.{_≢_};
 ghost use mathlib.Core.Bool.{cond};
@@ -131,7 +132,7 @@ fn worst_with(slacks: &mut [i64], least: Time)
     slacks[0] = Time::of(slacks[0]).least(least).value();
 }
 
-// Insertion k + 1 splits the edge to v for sink s: the numbers follow. `parents` and `below` are those from before the split.
+// Insertion k + 1 splits the edge to v for sink s: the numbers of the enlarged tree are gathered. `parents` and `below` are those from before the split.
 pub fn regather(
     branch: Time,
     n: usize,

@@ -26,7 +26,7 @@ fn split_edge(parents: &mut [usize], b: usize, v: usize, s: usize)
     parents[s] = b;
 }
 
-// Insertion k + 1: the next sink goes in.
+// Insertion k + 1: the edges are tried from the gathered numbers, those of the enlarged tree are gathered, and the chosen edge is split.
 fn insert_next(
     branch: Time,
     n: usize,

@@ -2,57 +2,33 @@
 -- and what is got from it for each edge is the enlarged tree's worst slack. Assumes nothing.
 use Prim.Native.Nat.{ℕ, zero, suc, _+_, _*_, _≤_, _<_}
 use mathlib.Core.Path.{_≡_, refl, sym, ap, _∙_, subst}
-use mathlib.Core.Bool.{Bool, true, false, cond}
-use mathlib.Core.Logic.{_↔_, _≢_, _⊎_, inl, inr}
-use mathlib.Core.List.{List, [], _∷_, map}
+use mathlib.Core.Bool.{true}
+use mathlib.Core.Logic.{_≢_, _⊎_, inl, inr}
+use mathlib.Core.List.{List, map}
 use native.Mathlib.Omega.{arith}
 use lib.ListN.{length, getD}
-use borrow.Author.Tests.{eqb-true, eqb-false}
+use borrow.Author.Tests.{eqb-true, eq-eqb}
 use lib.Dec.{eqb}
 use lib.IntN.{ℤ, pos}
 use lib.Signed.{_≤ℤ_, ≤ℤ-refl}
 use Rattle.quantities.specs.Linear.{whole}
-use Rattle.tree.specs.Lists.{delta, count, down, least}
+use Rattle.tree.specs.Lists.{count, down, least}
 use Rattle.tree.specs.Net.{Net, size}
 use Rattle.tree.specs.Tree.{parentOf}
-use Rattle.tree.specs.Measures.{slack, worstOver}
+use Rattle.tree.specs.Measures.{slack}
 use Rattle.tree.specs.Planning.{lowerEnds, tieRule, parentsAfter}
-use Rattle.tree.specs.Settling.{childrenIn}
-use Rattle.tree.specs.SmallestSlack.{treeAfter, sinksIn, InTree, childrenAfter, FromLeavesUp, Gathered, SmallestSlack}
+use Rattle.tree.specs.SmallestSlack.{sinksIn, childrenAfter, FromLeavesUp, Gathered, SmallestSlack}
 use Rattle.tree.proofs.Laws.AnySplit.{meet}
 use Rattle.tree.proofs.Laws.Gathering.{gathered-if, gathered-least, gathered-sink, gathered-worst, gathered-score}
 use Rattle.tree.proofs.Laws.Growing.{PartTree, Inner, hops-up}
 use Rattle.tree.proofs.Laws.Insertion.{Least, ≤ℤ-trans}
 use Rattle.tree.proofs.Laws.SinkEdge.{in-pos, meet-self}
 use Rattle.tree.proofs.Laws.Steps.{inserted}
-use Rattle.tree.proofs.Laws.Sums.{delta-self, delta-ne, equal?, down-in, down-once}
+use Rattle.tree.proofs.Laws.Sums.{equal?, down-in, down-once, with-in, in-with}
 use Rattle.tree.proofs.Laws.TreeAfter.{t, inserted-count, to-vertex, from-vertex, slack-is, worst-least, least-of, some-length}
 use Rattle.tree.proofs.Laws.Under.{under-child, root-child, under-parent, under-sink, some-child}
 use Rattle.tree.proofs.Laws.Walks.{hops, hops-le}
 use Rattle.tree.proofs.Laws.WorstAfter.{LeastBelow, least-one, before}
-
--- ---- the children of a vertex, picked out of a list
-
-module _ (p : ℕ → ℕ) (v : ℕ) where
-  children-in : (l : List ℕ) (u : ℕ) → count u (childrenIn p v l) ≢ 0 → (count u l ≢ 0) × (p u ≡ v)
-  children-in [] u h = absurd (h refl)
-  children-in (x ∷ l) u h = go (children-in l u) (eqb (p x) v) refl h (equal? u x)
-    where
-      go : (count u (childrenIn p v l) ≢ 0 → (count u l ≢ 0) × (p u ≡ v)) → (b : Bool) → eqb (p x) v ≡ b → count u (cond b (x ∷ childrenIn p v l) (childrenIn p v l)) ≢ 0
-          → (u ≡ x) ⊎ (u ≢ x) → (count u (x ∷ l) ≢ 0) × (p u ≡ v)
-      go ih true e q (inl i) = (omega (arith, ap (delta u) (sym i), delta-self u), ap p i ∙ eqb-true (p x) v e)
-      go ih true e q (inr d) = let r : (count u l ≢ 0) × (p u ≡ v) = ih (omega (arith, delta-ne u x d)) in (omega (arith, r .0), r .1)
-      go ih false e q d = let r : (count u l ≢ 0) × (p u ≡ v) = ih q in (omega (arith, r .0), r .1)
-
-  in-children : (l : List ℕ) (u : ℕ) → count u l ≢ 0 → p u ≡ v → count u (childrenIn p v l) ≢ 0
-  in-children [] u h q = h
-  in-children (x ∷ l) u h q = go (λ m. in-children l u m q) (eqb (p x) v) refl (equal? u x)
-    where
-      go : (count u l ≢ 0 → count u (childrenIn p v l) ≢ 0) → (b : Bool) → eqb (p x) v ≡ b → (u ≡ x) ⊎ (u ≢ x) → count u (cond b (x ∷ childrenIn p v l) (childrenIn p v l)) ≢ 0
-      go ih true e (inl i) = omega (arith, ap (delta u) (sym i), delta-self u)
-      go ih true e (inr d) = omega (arith, delta-ne u x d, ih (omega (arith, delta-ne u x d)))
-      go ih false e (inl i) = absurd (eqb-false (p x) v e (ap p (sym i) ∙ q))
-      go ih false e (inr d) = ih (omega (arith, delta-ne u x d))
 
 -- ---- numbers w at the vertices of a tree whose sinks have the slacks f; `kids` has the children of each
 
@@ -205,10 +181,10 @@ module _ (N : Net) (c1 : 1 ≤ N .branch) (k : ℕ) (kN : k < size N) (slacks : 
   T = t N c1 k kN
 
   is-kid : (v u : ℕ) → count u (childrenAfter N k v) ≢ 0 → Old u × (q u ≡ v)
-  is-kid v u h = let r = children-in q v (lowerEnds (size N) (sinksIn N k) k) u h in (to-vertex N c1 k kN u (r .0), r .1)
+  is-kid v u h = let r : (count u (lowerEnds (size N) (sinksIn N k) k) ≢ 0) × (eqb (q u) v ≡ true) = with-in (λ z. eqb (q z) v) (lowerEnds (size N) (sinksIn N k) k) u h in (to-vertex N c1 k kN u (r .0), eqb-true (q u) v (r .1))
 
   has-kid : (v u : ℕ) → Old u → q u ≡ v → count u (childrenAfter N k v) ≢ 0
-  has-kid v u m e = in-children q v (lowerEnds (size N) (sinksIn N k) k) u (from-vertex N c1 k kN u m) e
+  has-kid v u m e = in-with (λ z. eqb (q z) v) (lowerEnds (size N) (sinksIn N k) k) u (from-vertex N c1 k kN u m) (eq-eqb (q u) v e)
 
   inner : (v : ℕ) → Inner (size N) k v → (v ≡ 0) ⊎ (count v (down (size N) k) ≢ 0)
   inner v (inl e) = inl e

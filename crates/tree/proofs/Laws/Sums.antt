@@ -1,12 +1,13 @@
 -- Sums over a range of numbers and over a list, counts, and the regrouping of a sum by its values. Assumes nothing.
-use mathlib.Core.Path.{_≡_, refl, sym, ap, ap₂}
+use mathlib.Core.Path.{_≡_, refl, sym, ap, ap₂, _∙_}
+use mathlib.Core.Bool.{Bool, true, false, cond}
 use mathlib.Core.Logic.{_≢_, _⊎_, inl, inr}
 use mathlib.Core.List.{List, [], _∷_}
 use Prim.Native.Nat.{ℕ, zero, suc, _+_, _*_, _≤_, _<_, zero-le}
 use native.Mathlib.Nat.{add-zero, zero-add, add-suc, suc-add, add-mul, zero-mul, one-mul, mul-zero, le-refl, eq-or-lt-of-le}
 use native.Mathlib.Omega.{arith}
 use lib.ListN.{length, getD}
-use Rattle.tree.specs.Lists.{sumOver, delta, count, down}
+use Rattle.tree.specs.Lists.{sumOver, delta, count, down, allWith}
 
 -- f a + f (a + 1) + .. , n terms
 abbrev pub sum : ℕ → ℕ → (ℕ → ℕ) → ℕ
@@ -157,3 +158,26 @@ sumOver-change (y ∷ l) f g x h = go (sumOver-change l f g x (λ z q. h z (omeg
         → g y + sumOver l g + (delta x y + count x l) * f x ≡ f y + sumOver l f + (delta x y + count x l) * g x
     go ih (inl e) = rw (← e) (rw (delta-self x) (omega arith))
     go ih (inr d) = rw (delta-ne x y d) (omega (arith, h y (omega (arith, delta-self y)) (λ e. d (sym e))))
+
+-- ---- what passes a test stands among those of the list that do
+
+module _ (test : ℕ → Bool) where
+  pub with-in : (l : List ℕ) (y : ℕ) → count y (allWith test l) ≢ 0 → (count y l ≢ 0) × (test y ≡ true)
+  with-in [] y h = absurd (h refl)
+  with-in (x ∷ l) y h = go (with-in l y) (test x) refl h (equal? y x)
+    where
+      go : (count y (allWith test l) ≢ 0 → (count y l ≢ 0) × (test y ≡ true)) → (b : Bool) → test x ≡ b → count y (cond b (x ∷ allWith test l) (allWith test l)) ≢ 0
+          → (y ≡ x) ⊎ (y ≢ x) → (count y (x ∷ l) ≢ 0) × (test y ≡ true)
+      go ih true e q (inl i) = (omega (arith, ap (delta y) (sym i), delta-self y), ap test i ∙ e)
+      go ih true e q (inr d) = let r : (count y l ≢ 0) × (test y ≡ true) = ih (omega (arith, delta-ne y x d)) in (omega (arith, r .0), r .1)
+      go ih false e q d = let r : (count y l ≢ 0) × (test y ≡ true) = ih q in (omega (arith, r .0), r .1)
+
+  pub in-with : (l : List ℕ) (y : ℕ) → count y l ≢ 0 → test y ≡ true → count y (allWith test l) ≢ 0
+  in-with [] y h q = h
+  in-with (x ∷ l) y h q = go (λ m. in-with l y m q) (test x) refl (equal? y x)
+    where
+      go : (count y l ≢ 0 → count y (allWith test l) ≢ 0) → (b : Bool) → test x ≡ b → (y ≡ x) ⊎ (y ≢ x) → count y (cond b (x ∷ allWith test l) (allWith test l)) ≢ 0
+      go ih true e (inl i) = omega (arith, ap (delta y) (sym i), delta-self y)
+      go ih true e (inr d) = omega (arith, delta-ne y x d, ih (omega (arith, delta-ne y x d)))
+      go ih false e (inl i) = let z : true ≡ false = sym q ∙ ap test i ∙ e in let o : _≡_ {A = ℕ} 0 1 = cc in absurd (omega arith)
+      go ih false e (inr d) = ih (omega (arith, delta-ne y x d))

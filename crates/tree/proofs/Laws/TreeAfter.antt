@@ -1,15 +1,15 @@
 -- The tree after k insertions: its vertices, slacks and paths, by the laws' terms and by the definitions'. Assumes nothing.
 use Prim.Native.Nat.{ℕ, suc, _+_, _*_, _-_, _≤_, _<_}
 use mathlib.Core.Path.{_≡_, refl, sym, ap, _∙_, subst}
-use mathlib.Core.Bool.{Bool, true, false, cond}
+use mathlib.Core.Bool.{Bool, true, cond}
 use mathlib.Core.Logic.{_≢_, _⊎_, inl, inr}
 use mathlib.Core.List.{List, [], _∷_, map}
 use native.Mathlib.Omega.{arith}
-use borrow.Author.Tests.{ltb-true, ltb-false, lt-ltb}
+use borrow.Author.Tests.{ltb-true, lt-ltb}
 use lib.ListN.{length, getD, take, drop, take-append-drop, length-take}
 use lib.IntN.{ℤ}
 use lib.Signed.{_≤ℤ_}
-use Rattle.tree.specs.Lists.{delta, count, down, least}
+use Rattle.tree.specs.Lists.{count, down, least}
 use Rattle.tree.specs.Net.{Net, size, ownSlack}
 use Rattle.tree.specs.Tree.{Tree, parentOf}
 use Rattle.tree.specs.Measures.{path, slack, worstOver}
@@ -24,7 +24,7 @@ use Rattle.tree.proofs.Laws.Planning.{least-law, count-append, order-le
 use Rattle.tree.proofs.Laws.Scores.{before-is}
 use Rattle.tree.proofs.Laws.SinkEdge.{in-pos}
 use Rattle.tree.proofs.Laws.Steps.{newest-count, inserted, inserted-in, grown-at}
-use Rattle.tree.proofs.Laws.Sums.{delta-self, delta-ne, equal?, down-in}
+use Rattle.tree.proofs.Laws.Sums.{delta-ne, equal?, down-in, with-in, in-with}
 use Rattle.tree.proofs.Laws.Under.{path-meet, path-hops, meet-add, some-sink}
 use Rattle.tree.proofs.Laws.Walks.{hops, hops-add}
 use Rattle.tree.proofs.Laws.WorstAfter.{LeastBelow, least-one, before}
@@ -43,29 +43,13 @@ least-same f g l r w e h m = record {
   is = sym (h (m .at) (omega (arith, e (m .at), m .in-list))) ∙ m .is;
 }
 
--- ---- the sinks at or under a vertex, picked out of a list
+-- ---- the sinks at or under a vertex
 
 pub under-in : (T : Tree) (v : ℕ) (l : List ℕ) (y : ℕ) → count y (sinksUnder T v l) ≢ 0 → (count y l ≢ 0) × (count v (0 ∷ path T y) ≢ 0)
-under-in T v [] y h = absurd (h refl)
-under-in T v (s ∷ l) y h = go (under-in T v l y) (isUnder T v s) refl h (equal? y s)
-  where
-    go : (count y (sinksUnder T v l) ≢ 0 → (count y l ≢ 0) × (count v (0 ∷ path T y) ≢ 0)) → (b : Bool) → isUnder T v s ≡ b → count y (cond b (s ∷ sinksUnder T v l) (sinksUnder T v l)) ≢ 0
-        → (y ≡ s) ⊎ (y ≢ s) → (count y (s ∷ l) ≢ 0) × (count v (0 ∷ path T y) ≢ 0)
-    go ih true e q (inl i) =
-        let some : 0 < count v (0 ∷ path T s) = ltb-true 0 _ e in
-        (omega (arith, ap (delta y) (sym i), delta-self y), subst (λ (z : ℕ). count v (0 ∷ path T z) ≢ 0) (sym i) (omega arith))
-    go ih true e q (inr d) = let u : (count y l ≢ 0) × (count v (0 ∷ path T y) ≢ 0) = ih (omega (arith, delta-ne y s d)) in (omega (arith, u .0), u .1)
-    go ih false e q d = let u : (count y l ≢ 0) × (count v (0 ∷ path T y) ≢ 0) = ih q in (omega (arith, u .0), u .1)
+under-in T v l y h = let r : (count y l ≢ 0) × (isUnder T v y ≡ true) = with-in (isUnder T v) l y h in (r .0, omega (arith, ltb-true 0 (count v (0 ∷ path T y)) (r .1)))
 
 pub in-under : (T : Tree) (v : ℕ) (l : List ℕ) (y : ℕ) → count y l ≢ 0 → count v (0 ∷ path T y) ≢ 0 → count y (sinksUnder T v l) ≢ 0
-in-under T v [] y h q = h
-in-under T v (s ∷ l) y h q = go (λ m. in-under T v l y m q) (isUnder T v s) refl (equal? y s)
-  where
-    go : (count y l ≢ 0 → count y (sinksUnder T v l) ≢ 0) → (b : Bool) → isUnder T v s ≡ b → (y ≡ s) ⊎ (y ≢ s) → count y (cond b (s ∷ sinksUnder T v l) (sinksUnder T v l)) ≢ 0
-    go ih true e (inl i) = omega (arith, ap (delta y) (sym i), delta-self y)
-    go ih true e (inr d) = omega (arith, delta-ne y s d, ih (omega (arith, delta-ne y s d)))
-    go ih false e (inl i) = absurd (omega (arith, subst (λ (z : ℕ). count v (0 ∷ path T z) ≢ 0) i q, ltb-false 0 (count v (0 ∷ path T s)) e))
-    go ih false e (inr d) = ih (omega (arith, delta-ne y s d))
+in-under T v l y h q = in-with (isUnder T v) l y h (lt-ltb 0 (count v (0 ∷ path T y)) (omega arith))
 
 -- all are under the root
 pub all-under : (T : Tree) (l : List ℕ) → sinksUnder T 0 l ≡ l

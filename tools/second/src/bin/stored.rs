@@ -60,7 +60,7 @@ fn main() -> ExitCode {
     let report = match run(&asked) {
         Ok(report) => report,
         Err(error) => {
-            eprintln!("stored: {error}");
+            eprintln!("stored: {error} (nets in {})", asked.folder.display());
             return ExitCode::from(2);
         }
     };

@@ -1,5 +1,5 @@
 -- `choose::or_nearer_sink` meets its contract: the edge to u has less score, or keeps the worst slack as the best one does, and then the nearer goes first. Assumes nothing.
-use mathlib.Core.Path.{_≡_, refl, sym, ap, _∙_}
+use mathlib.Core.Path.{refl, sym, ap, _∙_}
 use native.Mathlib.Omega.{arith}
 use Rattle.tree.specs.declared.choose.Edge.{Edge}
 use Rattle.tree.specs.SmallestSlack.{score}

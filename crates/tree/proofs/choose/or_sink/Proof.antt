@@ -1,10 +1,8 @@
 -- `choose::or_sink` meets its contract: an edge with less room has less score and goes behind, so its distance does not matter; one of more score goes first. Assumes nothing.
 use mathlib.Core.Path.{_≡_, refl, sym, ap, _∙_}
-use mathlib.Core.Bool.{true}
 use native.Mathlib.Omega.{arith}
 use lib.ListN.{getD}
 use lib.IntN.{pos, _-ℤ_}
-use lib.Signed.{ltZ}
 use Rattle.quantities.specs.Linear.{whole}
 use Rattle.quantities.proofs.Laws.Order.{min-is}
 use Rattle.tree.specs.declared.choose.Edge.{Edge}
