@@ -4,13 +4,15 @@ use mathlib.Core.Path.{_≡_}
 use mathlib.Core.Bool.{Bool, true, false, cond}
 use mathlib.Core.Logic.{_⊎_}
 use mathlib.Core.List.{List}
-use lib.ListN.{getD}
+use lib.ListN.{length, getD}
 use lib.Dec.{ltb}
 use lib.IntN.{ℤ, pos}
 use lib.Signed.{_≤ℤ_, ltZ}
 use Rattle.quantities.specs.Distance.{distance}
+use Rattle.quantities.specs.Reach.{Within, PointWithin, timeReach}
 use Rattle.tree.specs.declared.choose.Edge.{Edge}
 use Rattle.tree.specs.Planning.{nearer, ranks}
+use Rattle.tree.specs.Limits.{positionLimit}
 use Rattle.tree.specs.SmallestSlack.{score}
 use Rattle.tree.specs.Arrays.{pointAt}
 
@@ -49,6 +51,13 @@ AnyEnd sinks m n h v = SinkEnd sinks m v ⊎ ((n < v) × (v ≤ n + h))
 -- the sinks at the places i to m - 1 of their order
 abbrev pub SinkFrom : List ℕ → ℕ → ℕ → ℕ → Type 0
 SinkFrom sinks i m v = (h : ℕ) × (i ≤ h) × (h < m) × (getD sinks h 0 ≡ v)
+
+-- what the search asks of the arrays: the places of the root and of the n sinks, and a sink that is in
+abbrev pub PlacesWithin : ℕ → List ℤ → List ℤ → Type 0
+PlacesWithin n xs ys = (n < length xs) × (n < length ys) × ((u : ℕ) → u ≤ n → PointWithin positionLimit (pointAt xs ys u))
+
+abbrev pub SinkWithin : ℕ → List ℤ → ℕ → Type 0
+SinkWithin n slacks u = (u ≤ n) × (u < length slacks) × Within timeReach (getD slacks u (pos 0))
 
 -- no branch point has more room than every sink
 abbrev pub NoneRoomier : ℕ → ℕ → List ℕ → List ℤ → Type 0

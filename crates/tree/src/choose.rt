@@ -11,7 +11,7 @@ ghost use Rattle.tree.specs.Net.{Net, size};
 ghost use Rattle.tree.specs.Limits.{positionLimit};
 ghost use Rattle.tree.specs.Arrays.{pointAt};
 ghost use Rattle.tree.specs.SmallestSlack.{InTree, Gathered, score, worstWith};
-ghost use Rattle.tree.specs.Choice.{farAt, firstOf, edgeTo, BestEnd, BestEdge, SinkEnd, SinkFrom, AnyEnd, NoneRoomier, FirstAsGood};
+ghost use Rattle.tree.specs.Choice.{farAt, firstOf, edgeTo, BestEnd, BestEdge, SinkEnd, SinkFrom, AnyEnd, PlacesWithin, SinkWithin, NoneRoomier, FirstAsGood};
 use crate::measure::point;
 use quantities::length::Length;
 use quantities::point::distance;
@@ -80,8 +80,7 @@ fn or_sink(
     u: usize,
     s: usize,
 ) -> Edge
-    requires { ⌜ (u ≤ n) × (s ≤ n) × (n < length (now xs)) × (n < length (now ys)) × (u < length (now slacks)) ⌝ }
-    requires { ⌜ PointWithin positionLimit (pointAt (now xs) (now ys) u) × PointWithin positionLimit (pointAt (now xs) (now ys) s) × Within timeReach (getD (now slacks) u (pos 0)) × Within timeReach (branch .0) ⌝ }
+    requires { ⌜ PlacesWithin n (now xs) (now ys) × (s ≤ n) × SinkWithin n (now slacks) u × Within timeReach (branch .0) ⌝ }
     requires { ⌜ best .score .0 ≤ℤ getD (now slacks) 0 (pos 0) ⌝ }
     ensures { λ r. ⌜ r ≡ firstOf (edgeTo (score (branch .0) (now (slacks .entry))) (farAt n (now (xs .entry)) (now (ys .entry)) s) u) best ⌝ }
 {
@@ -112,8 +111,7 @@ fn or_nearer_sink(
     u: usize,
     s: usize,
 ) -> Edge
-    requires { ⌜ (u ≤ n) × (s ≤ n) × (n < length (now xs)) × (n < length (now ys)) × (u < length (now slacks)) ⌝ }
-    requires { ⌜ PointWithin positionLimit (pointAt (now xs) (now ys) u) × PointWithin positionLimit (pointAt (now xs) (now ys) s) × Within timeReach (getD (now slacks) u (pos 0)) × Within timeReach (branch .0) ⌝ }
+    requires { ⌜ PlacesWithin n (now xs) (now ys) × (s ≤ n) × SinkWithin n (now slacks) u × Within timeReach (branch .0) ⌝ }
     requires { ⌜ best .score .0 ≡ getD (now slacks) 0 (pos 0) ⌝ }
     ensures { λ r. ⌜ r ≡ firstOf (edgeTo (score (branch .0) (now (slacks .entry))) (farAt n (now (xs .entry)) (now (ys .entry)) s) u) best ⌝ }
 {
@@ -137,9 +135,8 @@ fn or_nearer_sinks(
     branch: Time,
     s: usize,
 ) -> Edge
-    requires { ⌜ (left ≤ n) × (s ≤ n) × (n < length (now xs)) × (n < length (now ys)) × (left ≤ length (now sinks)) × Within timeReach (branch .0) ⌝ }
-    requires { ⌜ ((u : ℕ) → u ≤ n → PointWithin positionLimit (pointAt (now xs) (now ys) u)) ⌝ }
-    requires { ⌜ ((i : ℕ) → i < left → (getD (now sinks) i 0 ≤ n) × (getD (now sinks) i 0 < length (now slacks)) × Within timeReach (getD (now slacks) (getD (now sinks) i 0) (pos 0))) ⌝ }
+    requires { ⌜ PlacesWithin n (now xs) (now ys) × (s ≤ n) × (left ≤ length (now sinks)) × Within timeReach (branch .0) ⌝ }
+    requires { ⌜ ((i : ℕ) → i < left → SinkWithin n (now slacks) (getD (now sinks) i 0)) ⌝ }
     requires { ⌜ (0 < left → found .score .0 ≡ getD (now slacks) 0 (pos 0)) ⌝ }
     ensures { λ r. ⌜ ((m : ℕ) → left ≤ m → BestEdge (SinkFrom (now (sinks .entry)) left m) (score (branch .0) (now (slacks .entry))) (farAt n (now (xs .entry)) (now (ys .entry)) s) found → BestEdge (SinkFrom (now (sinks .entry)) 0 m) (score (branch .0) (now (slacks .entry))) (farAt n (now (xs .entry)) (now (ys .entry)) s) r) ⌝ }
 {
@@ -163,9 +160,8 @@ fn best_sink(
     branch: Time,
     s: usize,
 ) -> Edge
-    requires { ⌜ (1 ≤ m) × (m ≤ n) × (s ≤ n) × (n < length (now xs)) × (n < length (now ys)) × (m ≤ length (now sinks)) × Within timeReach (branch .0) ⌝ }
-    requires { ⌜ ((u : ℕ) → u ≤ n → PointWithin positionLimit (pointAt (now xs) (now ys) u)) ⌝ }
-    requires { ⌜ ((i : ℕ) → i < m → (getD (now sinks) i 0 ≤ n) × (getD (now sinks) i 0 < length (now slacks)) × Within timeReach (getD (now slacks) (getD (now sinks) i 0) (pos 0))) ⌝ }
+    requires { ⌜ PlacesWithin n (now xs) (now ys) × (s ≤ n) × (1 ≤ m) × (m ≤ length (now sinks)) × Within timeReach (branch .0) ⌝ }
+    requires { ⌜ ((i : ℕ) → i < m → SinkWithin n (now slacks) (getD (now sinks) i 0)) ⌝ }
     ensures { λ r. ⌜ BestEdge (SinkEnd (now (sinks .entry)) m) (score (branch .0) (now (slacks .entry))) (farAt n (now (xs .entry)) (now (ys .entry)) s) r ⌝ }
 {
     let worst = Time::of(slacks[0]);
@@ -236,9 +232,8 @@ pub fn choose(
     branch: Time,
     s: usize,
 ) -> usize
-    requires { ⌜ (n ≤ 512) × (suc k ≤ n) × (s ≤ n) × (n < length (now xs)) × (n < length (now ys)) × (suc k ≤ length (now sinks)) × (n + k < length (now slacks)) × Within timeReach (branch .0) ⌝ }
-    requires { ⌜ ((u : ℕ) → u ≤ n → PointWithin positionLimit (pointAt (now xs) (now ys) u)) ⌝ }
-    requires { ⌜ ((i : ℕ) → i < suc k → (getD (now sinks) i 0 ≤ n) × Within timeReach (getD (now slacks) (getD (now sinks) i 0) (pos 0))) ⌝ }
+    requires { ⌜ PlacesWithin n (now xs) (now ys) × (s ≤ n) × (n ≤ 512) × (suc k ≤ n) × (suc k ≤ length (now sinks)) × (n + k < length (now slacks)) × Within timeReach (branch .0) ⌝ }
+    requires { ⌜ ((i : ℕ) → i < suc k → SinkWithin n (now slacks) (getD (now sinks) i 0)) ⌝ }
     requires { ⌜ ((b : ℕ) → n < b → b ≤ n + k → Within timeReach (getD (now slacks) b (pos 0))) ⌝ }
     requires { ⌜ NoneRoomier n k (now sinks) (now slacks) ⌝ }
     ensures { λ r. ⌜ BestEnd (AnyEnd (now (sinks .entry)) (suc k) n k) (score (branch .0) (now (slacks .entry))) (farAt n (now (xs .entry)) (now (ys .entry)) s) r ⌝ }

@@ -25,7 +25,7 @@ abbrev μ-loop : tie.MeasureT-loop
 μ-loop n m xs ys sinks slacks branch s worst last best₀ i₀ best i = i
 
 shared-slice-copy-out-of : tie.Need-shared-slice-copy-out-of Inv-loop μ-loop
-shared-slice-copy-out-of c = let q = c .before .pre .1 .1 0 (omega arith) in omega (arith, q .1)
+shared-slice-copy-out-of c = let q = c .before .pre .1 0 (omega arith) in omega (arith, q .1)
 
 of-requires : tie.Need-of-requires Inv-loop μ-loop
 of-requires c κs = search needs
@@ -42,14 +42,15 @@ shared-slice-read-last c = omega arith
 score-of-requires : tie.Need-score-of-requires Inv-loop μ-loop
 score-of-requires c κs =
     let p = c .before .before .before .before .pre in
-    let q = p .1 .1 (c .before .before .before .before .args .m - 1) (omega arith) in
-    (q .1, q .2, p .0 .6)
+    let q = p .1 (c .before .before .before .before .args .m - 1) (omega arith) in
+    (q .1, q .2, p .0 .4)
 
 far-apart-requires : tie.Need-far-apart-requires Inv-loop μ-loop
 far-apart-requires c κs =
     let p = c .before .before .before .before .before .pre in
-    let q = p .1 .1 (c .before .before .before .before .before .args .m - 1) (omega arith) in
-    ((omega arith, omega arith, omega arith, omega arith), (p .1 .0 _ (q .0), p .1 .0 _ (p .0 .2)))
+    let q = p .1 (c .before .before .before .before .before .args .m - 1) (omega arith) in
+    let w = p .0 .0 in
+    ((omega (arith, w .0), omega (arith, w .1), omega (arith, w .0), omega (arith, w .1)), (w .2 _ (q .0), w .2 _ (p .0 .1)))
 
 sub-i : tie.Need-sub-i Inv-loop μ-loop
 sub-i c = omega arith
@@ -58,7 +59,7 @@ loop-holds : tie.Need-loop-holds Inv-loop μ-loop
 loop-holds c =
     let a = c .before .before .before .before .before .before .args in
     let i = a .m - 1 in
-    let q = c .before .before .before .before .before .before .pre .1 .1 i (omega arith) in
+    let q = c .before .before .before .before .before .before .pre .1 i (omega arith) in
     let f = score (a .branch .0) (a .slacks .now) in
     let d = farAt (a .n) (a .xs .now) (a .ys .now) (a .s) in
     let u = getD (a .sinks .now) i 0 in
@@ -81,10 +82,10 @@ or-sink-requires : tie.Need-or-sink-requires Inv-loop μ-loop
 or-sink-requires c κs =
     let p = c .before .before .before .before .before .before .before .before .before .before .before .pre in
     let l = c .before .before .before .before .loop in
-    let q = p .1 .1 (l .i - 1) (omega arith) in
+    let q = p .1 (l .i - 1) (omega arith) in
     let a = c .before .before .before .before .before .before .before .before .before .before .before .args in
     let top = subst (λ (z : ℤ). z ≤ℤ getD (a .slacks .now) 0 (pos 0)) (sym (ap (λ (y : Edge). y .score .0) (l .inv .1 .0))) (min-le-left _ _) in
-    ((q .0, omega arith, omega arith, omega arith, q .1), ((p .1 .0 _ (q .0), p .1 .0 _ (p .0 .2), q .2, p .0 .6), top))
+    ((p .0 .0, p .0 .1, q, p .0 .4), top)
 
 loop-less : tie.Need-loop-less Inv-loop μ-loop
 loop-less c = search needs
@@ -111,7 +112,7 @@ or-nearer-sinks-requires c κs =
     (λ t. keeps-worst (a .branch .0) (a .slacks .now) d (l .best) (l .inv .1 .0) (ap (ltZ (l .best .score .0)) (sym worst) ∙ sym (t .1 .ensures) ∙ t .2 .left))
     (λ t. absurd (omega (arith, t .left)))
     (c .loop-test .came) in
-    ((omega arith, p .0 .2, p .0 .3, p .0 .4, omega arith, p .0 .6), (p .1 .0, (λ i h. p .1 .1 i (omega arith), keeps)))
+    ((p .0 .0, p .0 .1, omega arith, p .0 .4), ((λ i h. p .1 i (omega arith)), keeps))
 
 returns : tie.Need-returns Inv-loop μ-loop
 returns c =

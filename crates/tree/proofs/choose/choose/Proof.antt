@@ -15,18 +15,18 @@ add-best-sink c = search needs
 best-sink-requires : tie.Need-best-sink-requires
 best-sink-requires c κs =
     let p = c .before .pre in
-    let q = p .1 .1 .0 in
-    ((omega arith, omega arith, p .0 .2, p .0 .3, p .0 .4, omega arith, p .0 .7), (p .1 .0, λ i l. let w = q i (omega arith) in (w .0, omega (arith, w .0), w .1)))
+    ((p .0 .0, p .0 .1, omega arith, omega arith, p .0 .6), λ i l. p .1 .0 i (omega arith))
 
 far-apart-requires : tie.Need-far-apart-requires
 far-apart-requires c κs =
     let p = c .before .before .pre in
-    ((omega arith, omega arith, omega arith, omega arith), (p .1 .0 0 (omega arith), p .1 .0 _ (p .0 .2)))
+    let w = p .0 .0 in
+    ((omega (arith, w .0), omega (arith, w .1), omega (arith, w .0), omega (arith, w .1)), (w .2 0 (omega arith), w .2 _ (p .0 .1)))
 
 or-branch-point-requires : tie.Need-or-branch-point-requires
 or-branch-point-requires c κs =
     let p = c .before .before .before .pre in
-    ((omega arith, omega arith, omega arith, p .0 .7), p .1 .1 .1 .0)
+    ((omega arith, omega arith, omega arith, p .0 .6), p .1 .1 .0)
 
 returns : tie.Need-returns
 returns c =
@@ -36,8 +36,8 @@ returns c =
     let d = farAt (a .n) (a .xs .now) (a .ys .now) (a .s) in
     let one : a .k + 1 ≡ suc (a .k) = omega arith in
     let B = subst (λ (m : ℕ). BestEdge (SinkEnd (a .sinks .now) m) (score (a .branch .0) (a .slacks .now)) d (nearest .result)) one (nearest .ensures) in
-    c .or-branch-point .ensures (a .sinks .now) d (λ i l. s .pre .1 .1 .0 i l .0)
-    (λ v l. far-branch-point (a .n) (a .xs .now) (a .ys .now) (a .s) v l ∙ sym (c .before .far-apart .ensures)) (s .pre .1 .1 .1 .1) B
+    c .or-branch-point .ensures (a .sinks .now) d (λ i l. s .pre .1 .0 i l .0)
+    (λ v l. far-branch-point (a .n) (a .xs .now) (a .ys .now) (a .s) v l ∙ sym (c .before .far-apart .ensures)) (s .pre .1 .1 .1) B
 
 pub choose-spec : {M : Type 1} → statement M
 choose-spec =

@@ -19,7 +19,11 @@ returns c =
     sym (room-behind (a .branch .0) (a .slacks .now) (a .u) d (a .best) (sym (c .before .lacks-room .ensures) ∙ c .if1 .taken))
 
 far-apart-requires : tie.Need-far-apart-requires
-far-apart-requires c κs = search needs
+far-apart-requires c κs =
+    let p = c .before .before .before .pre in
+    let w = p .0 .0 in
+    let u = p .0 .2 .0 in
+    ((omega (arith, w .0), omega (arith, w .1), omega (arith, w .0), omega (arith, w .1)), (w .2 _ u, w .2 _ (p .0 .1)))
 
 nearer-of-requires : tie.Need-nearer-of-requires
 nearer-of-requires c κs = refl
@@ -30,7 +34,7 @@ returns-2 c =
     let a = f .before .before .before .before .args in
     let p = f .before .before .before .before .pre in
     let d = farAt (a .n) (a .xs .now) (a .ys .now) (a .s) in
-    let keeps = room-worst (a .branch .0) (a .slacks .now) (a .u) (a .best .score .0) (p .1 .1) (sym (f .before .before .lacks-room .ensures) ∙ f .before .if1 .left) in
+    let keeps = room-worst (a .branch .0) (a .slacks .now) (a .u) (a .best .score .0) (p .1) (sym (f .before .before .lacks-room .ensures) ∙ f .before .if1 .left) in
     let made = edge-is (score (a .branch .0) (a .slacks .now)) d _ (a .u) refl keeps (f .far-apart .ensures ∙ far-sink (a .n) (a .xs .now) (a .ys .now) (a .s) (a .u) (omega arith)) in
     c .nearer-of .ensures ∙ ap (λ (x : Edge). firstOf x (a .best)) made
 

@@ -22,7 +22,7 @@ abbrev μ-loop : tie.MeasureT-loop
 μ-loop n left xs ys sinks slacks branch s best₀ i₀ best i = i
 
 loop-holds : tie.Need-loop-holds Inv-loop μ-loop
-loop-holds c = let p = c .before .pre in (omega arith, p .1 .1 .1, λ m l B. B)
+loop-holds c = let p = c .before .pre in (omega arith, p .1 .1, λ m l B. B)
 
 sub-i : tie.Need-sub-i Inv-loop μ-loop
 sub-i c = search needs
@@ -37,8 +37,7 @@ or-nearer-sink-requires : tie.Need-or-nearer-sink-requires Inv-loop μ-loop
 or-nearer-sink-requires c κs =
     let p = c .before .before .before .before .pre in
     let l = c .before .before .loop in
-    let q = p .1 .1 .0 (l .i - 1) (omega arith) in
-    ((q .0, p .0 .1, p .0 .2, p .0 .3, q .1), ((p .1 .0 _ (q .0), p .1 .0 _ (p .0 .1), q .2, p .0 .5), l .inv .1 (omega arith)))
+    ((p .0 .0, p .0 .1, p .1 .0 (l .i - 1) (omega arith), p .0 .3), l .inv .1 (omega arith))
 
 loop-less : tie.Need-loop-less Inv-loop μ-loop
 loop-less c = search needs

@@ -26,7 +26,11 @@ score-of-requires : tie.Need-score-of-requires
 score-of-requires c κs = search needs
 
 far-apart-requires : tie.Need-far-apart-requires
-far-apart-requires c κs = search needs
+far-apart-requires c κs =
+    let p = c .before .before .before .before .pre in
+    let w = p .0 .0 in
+    let u = p .0 .2 .0 in
+    ((omega (arith, w .0), omega (arith, w .1), omega (arith, w .0), omega (arith, w .1)), (w .2 _ u, w .2 _ (p .0 .1)))
 
 is-less-requires : tie.Need-is-less-requires
 is-less-requires c κs = search needs
@@ -56,7 +60,7 @@ nearer-of-requires c κs =
     let enough = sym (c .before .before .before .before .before .lacks-room .ensures) ∙ c .before .before .before .before .if1 .left in
     let no-more = sym (c .before .is-less .ensures) ∙ c .if2 .left in
     let number = c .before .before .before .score-of .ensures .0 in
-    let below = p .1 .1 in
+    let below = p .1 in
     omega (arith, whole, number, min-is (getD (a .slacks .now) 0 (pos 0)) room)
 
 returns-3 : tie.Need-returns-3

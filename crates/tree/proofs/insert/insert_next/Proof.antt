@@ -28,17 +28,20 @@ choose-requires c κs =
     let p = c .before .before .before .before .before .before .pre in
     let r = p .0 .1 in
     let b : Within termReach (a .branch .0) = branch-within (r .0) in
-    let kn = p .1 .0 in (
-      (few-sinks (r .0) .1, omega arith, line-in (r .1) (r .0 .size-is) (a .k + 1) (omega arith) .1, r .2 .xs-long, r .2 .ys-long, omega (arith, r .1 .long), omega (arith, p .1), omega (arith, whole)),
+    let kn = p .1 .0 in
+    let within = end-within (r .0) (r .1) (r .2) (r .3 .inserted) (r .3 .gathered) kn in (
       (
-        points-within (r .0 .in-range) (r .0 .size-is) (r .2),
-        (
-          (λ i l. (line-in (r .1) (r .0 .size-is) i (omega arith) .1, end-within (r .0) (r .1) (r .2) (r .3 .inserted) (r .3 .gathered) kn (getD (a .sinks .now) i 0) (inl (i, l, refl)))),
-          (
-            (λ b l h. end-within (r .0) (r .1) (r .2) (r .3 .inserted) (r .3 .gathered) kn b (inr (l, h))),
-            none-roomier (r .0) (r .1) (r .2) (r .3 .inserted) (r .3 .gathered) kn,
-          ),
-        ),
+        (r .2 .xs-long, r .2 .ys-long, points-within (r .0 .in-range) (r .0 .size-is) (r .2)),
+        line-in (r .1) (r .0 .size-is) (a .k + 1) (omega arith) .1,
+        few-sinks (r .0) .1,
+        omega arith,
+        omega (arith, r .1 .long),
+        omega (arith, p .1),
+        omega (arith, whole),
+      ),
+      (
+        (λ i l. let u = line-in (r .1) (r .0 .size-is) i (omega arith) .1 in (u, omega (arith, u, p .1), within (getD (a .sinks .now) i 0) (inl (i, l, refl)))),
+        (λ b l h. within b (inr (l, h)), none-roomier (r .0) (r .1) (r .2) (r .3 .inserted) (r .3 .gathered) kn),
       ),
     )
 
