@@ -7,10 +7,11 @@ use mathlib.Core.List.{List}
 use lib.ListN.{length, getD}
 use lib.Dec.{ltb}
 use lib.IntN.{ℤ, pos}
-use lib.Signed.{_≤ℤ_, ltZ}
+use lib.Signed.{_≤ℤ_, _<ℤ_, ltZ}
 use Rattle.quantities.specs.Distance.{distance}
 use Rattle.quantities.specs.Reach.{Within, PointWithin, timeReach}
 use Rattle.tree.specs.declared.choose.Edge.{Edge}
+use Rattle.tree.specs.declared.choose.Scored.{Scored}
 use Rattle.tree.specs.Planning.{nearer, ranks}
 use Rattle.tree.specs.Limits.{positionLimit}
 use Rattle.tree.specs.SmallestSlack.{score}
@@ -30,6 +31,21 @@ firstOf a b = cond (goesBefore a b) a b
 -- the edge to v, where f gives the worst slacks and d the distances
 abbrev pub edgeTo : (ℕ → ℤ) → (ℕ → ℕ) → ℕ → Edge
 edgeTo f d v = record { end = v; score = record { 0 = f v }; far = record { 0 = d v } }
+
+-- the sink at place i of the order, and the roomier of two: the first only where it scores more
+abbrev pub scoredAt : (ℕ → ℤ) → List ℕ → ℕ → Scored
+scoredAt f sinks i = record { place = i; score = record { 0 = f (getD sinks i 0) } }
+
+abbrev pub roomierOf : Scored → Scored → Scored
+roomierOf a b = cond (ltZ (b .score .0) (a .score .0)) a b
+
+-- of the sinks at the places i to m - 1 of their order the one at r's place scores the most, and more than those behind it
+pub record RoomiestFrom (f : ℕ → ℤ) (sinks : List ℕ) (i m : ℕ) (r : Scored) : Type 0 where
+  pub from : i ≤ r .place
+  pub inside : r .place < m
+  pub is : r .score .0 ≡ f (getD sinks (r .place) 0)
+  pub largest : (h : ℕ) → i ≤ h → h < m → f (getD sinks h 0) ≤ℤ r .score .0
+  pub behind : (h : ℕ) → r .place < h → h < m → f (getD sinks h 0) <ℤ r .score .0
 
 -- r is one of the given lower ends: of the largest f, then of the smallest d, then of the lowest number
 pub record BestEnd (Ends : ℕ → Type 0) (f : ℕ → ℤ) (d : ℕ → ℕ) (r : ℕ) : Type 0 where

@@ -11,7 +11,7 @@ ghost use Rattle.tree.specs.Net.{Net, size};
 ghost use Rattle.tree.specs.Limits.{positionLimit};
 ghost use Rattle.tree.specs.Arrays.{pointAt};
 ghost use Rattle.tree.specs.SmallestSlack.{InTree, Gathered, score, worstWith};
-ghost use Rattle.tree.specs.Choice.{farAt, firstOf, edgeTo, BestEnd, BestEdge, SinkEnd, SinkFrom, AnyEnd, PlacesWithin, SinkWithin, NoneRoomier, FirstAsGood};
+ghost use Rattle.tree.specs.Choice.{farAt, firstOf, edgeTo, scoredAt, roomierOf, RoomiestFrom, BestEnd, BestEdge, SinkEnd, SinkFrom, AnyEnd, PlacesWithin, SinkWithin, NoneRoomier, FirstAsGood};
 use crate::measure::point;
 use quantities::length::Length;
 use quantities::point::distance;
@@ -22,6 +22,12 @@ pub struct Edge {
     pub end: usize,
     pub score: Time,
     pub far: Length,
+}
+
+// A sink that is in, by its place in the order of insertion, and what its edge scores.
+pub struct Scored {
+    pub place: usize,
+    pub score: Time,
 }
 
 // What the worst slack becomes if the edge to v is split, from the gathered numbers: the new sink is never worse off than the worst under v.
@@ -69,38 +75,40 @@ fn nearer_of(a: Edge, b: Edge) -> Edge
     if a.end < b.end { a } else { b }
 }
 
-// The better of the best edge so far and the one to sink u: the nearer where both score the same. Where u has too little room for the best score, nothing else is looked at.
-fn or_sink(
-    best: Edge,
-    n: usize,
-    xs: &[i64],
-    ys: &[i64],
-    slacks: &[i64],
-    branch: Time,
-    u: usize,
-    s: usize,
-) -> Edge
-    requires { ⌜ PlacesWithin n (now xs) (now ys) × (s ≤ n) × SinkWithin n (now slacks) u × Within timeReach (branch .0) ⌝ }
-    requires { ⌜ best .score .0 ≤ℤ getD (now slacks) 0 (pos 0) ⌝ }
-    ensures { λ r. ⌜ r ≡ firstOf (edgeTo (score (branch .0) (now (slacks .entry))) (farAt n (now (xs .entry)) (now (ys .entry)) s) u) best ⌝ }
+// The better of the best sink so far and the one at place i of the order: this only where it scores more.
+fn or_roomier(best: Scored, sinks: &[usize], slacks: &[i64], branch: Time, i: usize) -> Scored
+    requires { ⌜ (i < length (now sinks)) × (getD (now sinks) i 0 < length (now slacks)) × Within timeReach (getD (now slacks) (getD (now sinks) i 0) (pos 0)) × Within timeReach (branch .0) ⌝ }
+    ensures { λ r. ⌜ r ≡ roomierOf (scoredAt (score (branch .0) (now (slacks .entry))) (now (sinks .entry)) i) best ⌝ }
 {
+    let score = score_of(slacks, branch, sinks[i]);
     let most = best.score;
-    if lacks_room(slacks, branch, u, most) {
-        return best;
-    }
-    let score = score_of(slacks, branch, u);
-    let made = Edge {
-        end: u,
-        score,
-        far: far_apart(xs, ys, u, s),
-    };
     if most.is_less(score) {
-        return made;
+        return Scored { place: i, score };
     }
-    nearer_of(made, best)
+    best
 }
 
-// The better of the best edge so far, which keeps the worst slack, and the one to sink u. No score is above it: u needs room for it, and then the nearer goes first.
+// The sink of the best score, looked for from the last of the first m: those that went in last have the most room. No edge scores more than the worst slack,
+// so the search ends at the first that keeps it.
+fn roomiest(m: usize, sinks: &[usize], slacks: &[i64], branch: Time) -> Scored
+    requires { ⌜ (1 ≤ m) × (m ≤ length (now sinks)) × Within timeReach (branch .0) ⌝ }
+    requires { ⌜ ((i : ℕ) → i < m → (getD (now sinks) i 0 < length (now slacks)) × Within timeReach (getD (now slacks) (getD (now sinks) i 0) (pos 0))) ⌝ }
+    ensures { λ r. ⌜ RoomiestFrom (score (branch .0) (now (slacks .entry))) (now (sinks .entry)) 0 m r ⌝ }
+{
+    let worst = Time::of(slacks[0]);
+    let mut i = m - 1;
+    let mut best = Scored {
+        place: i,
+        score: score_of(slacks, branch, sinks[i]),
+    };
+    while 0 < i && best.score.is_less(worst) {
+        i -= 1;
+        best = or_roomier(best, sinks, slacks, branch, i);
+    }
+    best
+}
+
+// The better of the best edge so far and the one to sink u, which scores no more: u needs room for as much, and then the nearer goes first.
 fn or_nearer_sink(
     best: Edge,
     n: usize,
@@ -112,7 +120,7 @@ fn or_nearer_sink(
     s: usize,
 ) -> Edge
     requires { ⌜ PlacesWithin n (now xs) (now ys) × (s ≤ n) × SinkWithin n (now slacks) u × Within timeReach (branch .0) ⌝ }
-    requires { ⌜ best .score .0 ≡ getD (now slacks) 0 (pos 0) ⌝ }
+    requires { ⌜ (score (branch .0) (now slacks) u ≤ℤ best .score .0) × (best .score .0 ≤ℤ getD (now slacks) 0 (pos 0)) ⌝ }
     ensures { λ r. ⌜ r ≡ firstOf (edgeTo (score (branch .0) (now (slacks .entry))) (farAt n (now (xs .entry)) (now (ys .entry)) s) u) best ⌝ }
 {
     let score = best.score;
@@ -123,7 +131,7 @@ fn or_nearer_sink(
     nearer_of(Edge { end: u, score, far }, best)
 }
 
-// The best edge to one of the sinks, where `found` is the best to one of those from place `left` on. It keeps the worst slack, or none is left.
+// The best edge to one of the sinks, where `found` is the best to one of those from place `left` on, and those before it score no more.
 fn or_nearer_sinks(
     found: Edge,
     n: usize,
@@ -137,7 +145,7 @@ fn or_nearer_sinks(
 ) -> Edge
     requires { ⌜ PlacesWithin n (now xs) (now ys) × (s ≤ n) × (left ≤ length (now sinks)) × Within timeReach (branch .0) ⌝ }
     requires { ⌜ ((i : ℕ) → i < left → SinkWithin n (now slacks) (getD (now sinks) i 0)) ⌝ }
-    requires { ⌜ (0 < left → found .score .0 ≡ getD (now slacks) 0 (pos 0)) ⌝ }
+    requires { ⌜ ((i : ℕ) → i < left → score (branch .0) (now slacks) (getD (now sinks) i 0) ≤ℤ found .score .0) × (found .score .0 ≤ℤ getD (now slacks) 0 (pos 0)) ⌝ }
     ensures { λ r. ⌜ ((m : ℕ) → left ≤ m → BestEdge (SinkFrom (now (sinks .entry)) left m) (score (branch .0) (now (slacks .entry))) (farAt n (now (xs .entry)) (now (ys .entry)) s) found → BestEdge (SinkFrom (now (sinks .entry)) 0 m) (score (branch .0) (now (slacks .entry))) (farAt n (now (xs .entry)) (now (ys .entry)) s) r) ⌝ }
 {
     let mut best = found;
@@ -149,7 +157,7 @@ fn or_nearer_sinks(
     best
 }
 
-// The best edge to one of the first m sinks, looked at from the last: those that went in last have the most room, so that few distances are needed. From the first that keeps the worst slack on, scores are no longer compared.
+// The best edge to one of the first m sinks: of those that score as much as the roomiest the nearest.
 fn best_sink(
     n: usize,
     m: usize,
@@ -164,19 +172,16 @@ fn best_sink(
     requires { ⌜ ((i : ℕ) → i < m → SinkWithin n (now slacks) (getD (now sinks) i 0)) ⌝ }
     ensures { λ r. ⌜ BestEdge (SinkEnd (now (sinks .entry)) m) (score (branch .0) (now (slacks .entry))) (farAt n (now (xs .entry)) (now (ys .entry)) s) r ⌝ }
 {
-    let worst = Time::of(slacks[0]);
-    let last = sinks[m - 1];
-    let mut best = Edge {
-        end: last,
-        score: score_of(slacks, branch, last),
-        far: far_apart(xs, ys, last, s),
+    let most = roomiest(m, sinks, slacks, branch);
+    let at = most.place;
+    let score = most.score;
+    let u = sinks[at];
+    let best = Edge {
+        end: u,
+        score,
+        far: far_apart(xs, ys, u, s),
     };
-    let mut i = m - 1;
-    while 0 < i && best.score.is_less(worst) {
-        i -= 1;
-        best = or_sink(best, n, xs, ys, slacks, branch, sinks[i], s);
-    }
-    or_nearer_sinks(best, n, i, xs, ys, sinks, slacks, branch, s)
+    or_nearer_sinks(best, n, at, xs, ys, sinks, slacks, branch, s)
 }
 
 // Whether the edge to v scores less than `least`.

@@ -10,12 +10,13 @@ use borrow.Author.Tests.{ltb-true, ltb-false}
 use lib.Dec.{ltb}
 use lib.ListN.{getD}
 use lib.IntN.{ℤ, pos, _-ℤ_}
-use lib.Signed.{_≤ℤ_, _<ℤ_, ltZ}
+use lib.Signed.{_≤ℤ_, _<ℤ_, ltZ, ≤ℤ-refl}
 use Rattle.quantities.specs.Linear.{whole, -is}
 use Rattle.quantities.proofs.Laws.Order.{min-is}
 use Rattle.tree.specs.declared.choose.Edge.{Edge}
+use Rattle.tree.specs.declared.choose.Scored.{Scored}
 use Rattle.tree.specs.SmallestSlack.{score}
-use Rattle.tree.specs.Choice.{goesBefore, firstOf, edgeTo, BestEnd, BestEdge, SinkEnd, SinkFrom, AnyEnd, NoneRoomier, NoneAsGood, FirstAsGood}
+use Rattle.tree.specs.Choice.{goesBefore, firstOf, edgeTo, scoredAt, roomierOf, RoomiestFrom, BestEnd, BestEdge, SinkEnd, SinkFrom, AnyEnd, NoneRoomier, NoneAsGood, FirstAsGood}
 use Rattle.tree.proofs.Laws.Sums.{equal?}
 use Rattle.tree.proofs.Laws.Ties.{Ahead, ahead-self, ahead-trans, ahead-one, Before, before-self, before-trans, nearer-says, byDistance}
 
@@ -51,11 +52,6 @@ module _ (f : ℕ → ℤ) (d : ℕ → ℕ) where
     tied = λ q. record { near = B .nearest u w q; low = λ e. B .lowest u w q (sym e) };
   }
 
-  -- best of one
-  pub best-one : {Ends : ℕ → Type 0} (u : ℕ) (x : Edge) → x ≡ edgeTo f d u → Ends u → ((v : ℕ) → Ends v → v ≡ u) → BestEdge Ends f d x
-  best-one {Ends} u x e m only =
-      subst (BestEdge Ends f d) (sym e) (leads-best u m (λ v w. subst (Leads u) (sym (only v w)) (leads-self u)))
-
   module _ {Ends Ends′ : ℕ → Type 0} (x : Edge) (B : BestEdge Ends f d x) (more : (v : ℕ) → Ends v → Ends′ v) where
     -- the rest come no earlier
     pub best-enough : ((v : ℕ) → Ends′ v → Leads (x .end) v ⊎ Ends v) → BestEdge Ends′ f d x
@@ -84,9 +80,20 @@ module _ (f : ℕ → ℤ) (d : ℕ → ℕ) where
             each v (inl q) = subst (Leads y) (sym q) (leads-one u y false h)
             each v (inr w) = best-leads (B .1) v w
 
-  -- ---- the sinks, by rank
-  pub last-sink : (sinks : List ℕ) (m i : ℕ) (x : Edge) → m ≡ suc i → x ≡ edgeTo f d (getD sinks i 0) → BestEdge (SinkFrom sinks i m) f d x
-  last-sink sinks m i x l e = best-one (getD sinks i 0) x e (i, omega arith, omega arith, refl) (λ v w. sym (w .3) ∙ ap (λ (h : ℕ). getD sinks h 0) (omega (arith, w .1, w .2)))
+  -- ---- the sinks, by place
+
+  -- the roomiest is the best of those from its place on
+  pub roomiest-best : (sinks : List ℕ) (m : ℕ) (r : Scored) (x : Edge) → RoomiestFrom f sinks 0 m r → x ≡ edgeTo f d (getD sinks (r .place) 0) → BestEdge (SinkFrom sinks (r .place) m) f d x
+  roomiest-best sinks m r x R e = subst (BestEdge (SinkFrom sinks (r .place) m) f d) (sym e) (leads-best u (r .place, omega arith, R .inside, refl) (λ v w. go v w (equal? (w .0) (r .place))))
+    where
+      u : ℕ
+      u = getD sinks (r .place) 0
+
+      go : (v : ℕ) (w : SinkFrom sinks (r .place) m v) → (w .0 ≡ r .place) ⊎ (w .0 ≢ r .place) → Leads u v
+      go v w (inl q) = subst (Leads u) (sym (ap (λ (h : ℕ). getD sinks h 0) q) ∙ w .3) (leads-self u)
+      go v w (inr q) =
+          let less : f v <ℤ f u = subst (λ (z : ℕ). f z <ℤ f u) (w .3) (subst (λ (z : ℤ). f (getD sinks (w .0) 0) <ℤ z) (R .is) (R .behind (w .0) (omega (arith, w .1)) (w .2))) in
+          record { more = omega (arith, whole); tied = λ t. absurd (omega (arith, whole)) }
 
   pub next-sink : (sinks : List ℕ) (m i : ℕ) (x r : Edge) → i < m → BestEdge (SinkFrom sinks (suc i) m) f d x → r ≡ firstOf (edgeTo f d (getD sinks i 0)) x → BestEdge (SinkFrom sinks i m) f d r
   next-sink sinks m i x r l B e =
@@ -106,6 +113,54 @@ module _ (f : ℕ → ℤ) (d : ℕ → ℕ) where
       lowest = λ u w. B .1 .lowest u (w .0, omega arith, w .1, w .2);
     },
   )
+
+-- ---- the roomiest sink: of one, one more, and of all where none can score more
+
+module _ (f : ℕ → ℤ) (sinks : List ℕ) (m : ℕ) where
+  pub roomiest-one : (i : ℕ) (r : Scored) → m ≡ suc i → r ≡ scoredAt f sinks i → RoomiestFrom f sinks i m r
+  roomiest-one i r l e = subst (RoomiestFrom f sinks i m) (sym e) record {
+    from = omega arith;
+    inside = omega arith;
+    is = refl;
+    largest = λ h q p. let z : h ≡ i = omega arith in subst (λ (k : ℕ). f (getD sinks k 0) ≤ℤ f (getD sinks i 0)) (sym z) (≤ℤ-refl (f (getD sinks i 0)));
+    behind = λ h q p. absurd (omega arith);
+  }
+
+  pub roomiest-more : (i : ℕ) (x r : Scored) → RoomiestFrom f sinks (suc i) m x → r ≡ roomierOf (scoredAt f sinks i) x → RoomiestFrom f sinks i m r
+  roomiest-more i x r R e = subst (RoomiestFrom f sinks i m) (sym e) (go (ltZ (x .score .0) (f (getD sinks i 0))) refl)
+    where
+      go : (t : Bool) → ltZ (x .score .0) (f (getD sinks i 0)) ≡ t → RoomiestFrom f sinks i m (cond t (scoredAt f sinks i) x)
+      go true h = record {
+        from = omega arith;
+        inside = omega (arith, R .from, R .inside);
+        is = refl;
+        largest = λ k q p. each k p (equal? k i) q;
+        behind = λ k q p. let z : f (getD sinks k 0) ≤ℤ x .score .0 = R .largest k q p in omega (arith, whole);
+      }
+        where
+          each : (k : ℕ) → k < m → (k ≡ i) ⊎ (k ≢ i) → i ≤ k → f (getD sinks k 0) ≤ℤ f (getD sinks i 0)
+          each k p (inl z) q = subst (λ (j : ℕ). f (getD sinks j 0) ≤ℤ f (getD sinks i 0)) (sym z) (≤ℤ-refl (f (getD sinks i 0)))
+          each k p (inr z) q = let y : f (getD sinks k 0) ≤ℤ x .score .0 = R .largest k (omega arith) p in omega (arith, whole)
+      go false h = record {
+        from = omega (arith, R .from);
+        inside = R .inside;
+        is = R .is;
+        largest = λ k q p. each k p (equal? k i) q;
+        behind = R .behind;
+      }
+        where
+          each : (k : ℕ) → k < m → (k ≡ i) ⊎ (k ≢ i) → i ≤ k → f (getD sinks k 0) ≤ℤ x .score .0
+          each k p (inl z) q = subst (λ (j : ℕ). f (getD sinks j 0) ≤ℤ x .score .0) (sym z) (omega (arith, whole))
+          each k p (inr z) q = R .largest k (omega arith) p
+
+  pub roomiest-all : (worst : ℤ) (i : ℕ) (x : Scored) → ((v : ℕ) → f v ≤ℤ worst) → ltZ (x .score .0) worst ≡ false → RoomiestFrom f sinks i m x → RoomiestFrom f sinks 0 m x
+  roomiest-all worst i x top e R = record {
+    from = omega arith;
+    inside = R .inside;
+    is = R .is;
+    largest = λ h q p. let z : f (getD sinks h 0) ≤ℤ worst = top (getD sinks h 0) in omega (arith, whole);
+    behind = R .behind;
+  }
 
 -- ---- the branch points, by number: none below b scores w, nor does b
 pub next-none : (c : ℤ) (slacks : List ℤ) (w : ℤ) (n b : ℕ) → NoneAsGood c slacks w n b → ltZ (score c slacks b) w ≡ true → NoneAsGood c slacks w n (b + 1)

@@ -1,6 +1,6 @@
 -- Two edges compared: by the room for a score, by score, and by distance and number where the scores are the same. Assumes nothing.
 use Prim.Native.Nat.{ℕ, _≤_, _<_}
-use mathlib.Core.Path.{_≡_, refl, sym, ap, _∙_, subst}
+use mathlib.Core.Path.{_≡_, refl, sym, ap, _∙_}
 use mathlib.Core.Bool.{Bool, true, false, cond}
 use mathlib.Core.List.{List}
 use native.Mathlib.Omega.{arith}
@@ -11,7 +11,7 @@ use lib.IntN.{ℤ, pos, _-ℤ_}
 use lib.Signed.{_≤ℤ_, _<ℤ_, ltZ}
 use Rattle.quantities.specs.Distance.{distance}
 use Rattle.quantities.specs.Linear.{whole, ltZ-is, ltZ-not}
-use Rattle.quantities.proofs.Laws.Order.{min-is, min-le-left}
+use Rattle.quantities.proofs.Laws.Order.{min-is}
 use Rattle.tree.specs.declared.choose.Edge.{Edge}
 use Rattle.tree.specs.Arrays.{pointAt}
 use Rattle.tree.specs.Planning.{nearer}
@@ -29,17 +29,13 @@ less-behind a x e = λ i. cond (byScores a x (below i) (e i)) a x
     below : ltZ (x .score .0) (a .score .0) ≡ false
     below = ltZ-not {a = x .score .0} {b = a .score .0} (omega (arith, whole))
 
--- an edge of more score goes first
-pub more-first : (a x : Edge) → ltZ (x .score .0) (a .score .0) ≡ true → firstOf a x ≡ a
-more-first a x e = λ i. cond (byScores a x (e i) (ltZ (a .score .0) (x .score .0))) a x
-
--- the edge to v, where what is left under v is less than w, or no less than the worst slack
+-- the edge to v, where what is left under v is less than w, or no less
 module _ (c : ℤ) (slacks : List ℤ) (v : ℕ) where
   room-less : (w : ℤ) → ltZ (getD slacks v (pos 0) -ℤ c) w ≡ true → score c slacks v <ℤ w
   room-less w e = omega (arith, whole, min-is (getD slacks 0 (pos 0)) (getD slacks v (pos 0) -ℤ c))
 
-  pub room-worst : (w : ℤ) → w ≡ getD slacks 0 (pos 0) → ltZ (getD slacks v (pos 0) -ℤ c) w ≡ false → w ≡ score c slacks v
-  room-worst w h e = omega (arith, whole, min-is (getD slacks 0 (pos 0)) (getD slacks v (pos 0) -ℤ c))
+  pub room-tied : (w : ℤ) → score c slacks v ≤ℤ w → w ≤ℤ getD slacks 0 (pos 0) → ltZ (getD slacks v (pos 0) -ℤ c) w ≡ false → w ≡ score c slacks v
+  room-tied w h l e = omega (arith, whole, min-is (getD slacks 0 (pos 0)) (getD slacks v (pos 0) -ℤ c))
 
   pub room-behind : (d : ℕ → ℕ) (x : Edge) → ltZ (getD slacks v (pos 0) -ℤ c) (x .score .0) ≡ true → firstOf (edgeTo (score c slacks) d v) x ≡ x
   room-behind d x e = less-behind (edgeTo (score c slacks) d v) x (ltZ-is {a = score c slacks v} {b = x .score .0} (room-less (x .score .0) e))
@@ -60,7 +56,7 @@ farther-behind a x e h =
     tied-first a x e false true (ltb (a .end) (x .end)) (le-ltb (a .far .0) (x .far .0) (omega (arith, ltb-true (x .far .0) (a .far .0) h))) h refl
 
 -- where x has the largest score, so does the one that goes first
-first-keeps : (a x : Edge) → a .score .0 ≤ℤ x .score .0 → firstOf a x .score .0 ≡ x .score .0
+pub first-keeps : (a x : Edge) → a .score .0 ≤ℤ x .score .0 → firstOf a x .score .0 ≡ x .score .0
 first-keeps a x l = go (goesBefore a x) refl
   where
     above : ltZ (x .score .0) (a .score .0) ≡ false
@@ -73,18 +69,6 @@ first-keeps a x l = go (goesBefore a x) refl
     go : (t : Bool) → goesBefore a x ≡ t → cond t a x .score .0 ≡ x .score .0
     go true h = same (ltZ (a .score .0) (x .score .0)) refl h
     go false h = refl
-
--- no score is above the worst slack: an edge that is not below it keeps it, and so does whatever goes before that edge
-module _ (c : ℤ) (slacks : List ℤ) (d : ℕ → ℕ) (x : Edge) where
-  pub keeps-worst : x ≡ edgeTo (score c slacks) d (x .end) → ltZ (x .score .0) (getD slacks 0 (pos 0)) ≡ false → x .score .0 ≡ getD slacks 0 (pos 0)
-  keeps-worst e h =
-      let s : x .score .0 ≡ score c slacks (x .end) = ap (λ (y : Edge). y .score .0) e in
-      omega (arith, whole, min-is (getD slacks 0 (pos 0)) (getD slacks (x .end) (pos 0) -ℤ c))
-
-  pub keeps-on : (u : ℕ) (r : Edge) → x .score .0 ≡ getD slacks 0 (pos 0) → r ≡ firstOf (edgeTo (score c slacks) d u) x → r .score .0 ≡ getD slacks 0 (pos 0)
-  keeps-on u r e h =
-      let l : score c slacks u ≤ℤ x .score .0 = subst (λ (z : ℤ). score c slacks u ≤ℤ z) (sym e) (min-le-left _ _) in
-      ap (λ (y : Edge). y .score .0) h ∙ first-keeps (edgeTo (score c slacks) d u) x l ∙ e
 
 -- an edge by its parts
 pub edge-is : (f : ℕ → ℤ) (d : ℕ → ℕ) (x : Edge) (u : ℕ) → x .end ≡ u → x .score .0 ≡ f u → x .far .0 ≡ d u → x ≡ edgeTo f d u

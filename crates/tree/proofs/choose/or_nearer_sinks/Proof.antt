@@ -1,20 +1,21 @@
--- `choose::or_nearer_sinks` meets its contract. The loop's invariant: the best edge to one of the sinks from place i on, which keeps the worst slack unless i is 0. The measure is i. Assumes nothing.
-use Prim.Native.Nat.{ℕ, suc, _-_, _≤_, _<_}
-use mathlib.Core.Path.{_≡_, subst}
+-- `choose::or_nearer_sinks` meets its contract. The loop's invariant: the best edge to one of the sinks from place i on, with the score that was found. The measure is i. Assumes nothing.
+use Prim.Native.Nat.{ℕ, suc, _-_, _≤_}
+use mathlib.Core.Path.{_≡_, refl, ap, _∙_, subst}
 use native.Mathlib.Omega.{arith}
 use borrow.Author.Needs.{needs}
 use lib.ListN.{getD}
-use lib.IntN.{pos}
+use Rattle.quantities.specs.Linear.{whole}
+use Rattle.tree.specs.declared.choose.Edge.{Edge}
 use Rattle.tree.specs.SmallestSlack.{score}
-use Rattle.tree.specs.Choice.{farAt, BestEdge, SinkFrom}
-use Rattle.tree.proofs.Laws.Comparing.{keeps-on}
+use Rattle.tree.specs.Choice.{farAt, edgeTo, BestEdge, SinkFrom}
+use Rattle.tree.proofs.Laws.Comparing.{first-keeps}
 use Rattle.tree.proofs.Laws.Choosing.{next-sink}
 use Rattle.tree.proofs.choose.or_nearer_sinks.Statement.{statement}
 use Rattle.tree.proofs.choose.or_nearer_sinks.Tie as tie
 
 abbrev Inv-loop : tie.InvT-loop
 Inv-loop n left xs ys sinks slacks branch s best₀ i₀ best i =
-    (i ≤ left) × (0 < i → best .score .0 ≡ getD slacks 0 (pos 0))
+    (i ≤ left) × (best .score .0 ≡ best₀ .score .0)
     × ((m : ℕ) → left ≤ m → BestEdge (SinkFrom sinks left m) (score (branch .0) slacks) (farAt n xs ys s) best₀
     → BestEdge (SinkFrom sinks i m) (score (branch .0) slacks) (farAt n xs ys s) best)
 
@@ -22,7 +23,7 @@ abbrev μ-loop : tie.MeasureT-loop
 μ-loop n left xs ys sinks slacks branch s best₀ i₀ best i = i
 
 loop-holds : tie.Need-loop-holds Inv-loop μ-loop
-loop-holds c = let p = c .before .pre in (omega arith, p .1 .1, λ m l B. B)
+loop-holds c = (omega arith, refl, λ m l B. B)
 
 sub-i : tie.Need-sub-i Inv-loop μ-loop
 sub-i c = search needs
@@ -37,7 +38,9 @@ or-nearer-sink-requires : tie.Need-or-nearer-sink-requires Inv-loop μ-loop
 or-nearer-sink-requires c κs =
     let p = c .before .before .before .before .pre in
     let l = c .before .before .loop in
-    ((p .0 .0, p .0 .1, p .1 .0 (l .i - 1) (omega arith), p .0 .3), l .inv .1 (omega arith))
+    let no-more = p .1 .1 .0 (l .i - 1) (omega arith) in
+    let below = p .1 .1 .1 in
+    ((p .0 .0, p .0 .1, p .1 .0 (l .i - 1) (omega arith), p .0 .3), (omega (arith, whole, l .inv .1), omega (arith, whole, l .inv .1)))
 
 loop-less : tie.Need-loop-less Inv-loop μ-loop
 loop-less c = search needs
@@ -50,9 +53,10 @@ loop-again c =
     let d = farAt (a .n) (a .xs .now) (a .ys .now) (a .s) in
     let r = c .or-nearer-sink in
     let i : ℕ = l .i - 1 in
+    let no-more = c .before .before .before .before .before .pre .1 .1 .0 i (omega arith) in
     let e : l .i ≡ suc i = omega arith in (
       omega arith,
-      λ h. keeps-on (a .branch .0) (a .slacks .now) d (l .best) (getD (a .sinks .now) i 0) (r .result) (l .inv .1 (omega arith)) (r .ensures),
+      ap (λ (x : Edge). x .score .0) (r .ensures) ∙ first-keeps (edgeTo f d (getD (a .sinks .now) i 0)) (l .best) (omega (arith, whole, l .inv .1)) ∙ l .inv .1,
       λ m h B. next-sink f d (a .sinks .now) m i (l .best) (r .result) (omega arith) (subst (λ (h : ℕ). BestEdge (SinkFrom (a .sinks .now) h m) f d (l .best)) e (l .inv .2 m h B)) (r .ensures),
     )
 
