@@ -23,7 +23,7 @@ far-apart-requires c κs =
     let p = c .before .before .before .pre in
     let w = p .0 .0 in
     let u = p .0 .2 .0 in
-    ((omega (arith, w .0), omega (arith, w .1), omega (arith, w .0), omega (arith, w .1)), (w .2 _ u, w .2 _ (p .0 .1)))
+    ((omega (arith, w .0), omega (arith, w .1), omega (arith, w .0), omega (arith, w .1)), (w .2 _ u, w .2 _ (omega (arith, p .0 .1))))
 
 nearer-of-requires : tie.Need-nearer-of-requires
 nearer-of-requires c κs = refl
