@@ -1,7 +1,7 @@
 // The library for callers in C and Rust: plan and judge on lent bytes, each figure through a reference of its own.
 ghost use mathlib.Core.Path.{_≡_};
 ghost use lib.ListN.{length};
-ghost use Rattle.formats.specs.Answers.{PlanFigures, JudgeFigures, planOf, planOutput, judgeOf};
+ghost use Rattle.formats.specs.Answers.{planOf, planOutput, judgeOf};
 use formats::answers::JudgeAnswer;
 use formats::answers::PlanAnswer;
 use formats::judge::judge;

@@ -75,6 +75,10 @@ PlacesWithin n xs ys = (n < length xs) × (n < length ys) × ((u : ℕ) → u �
 abbrev pub SinkWithin : ℕ → List ℤ → ℕ → Type 0
 SinkWithin n slacks u = (u ≤ n) × (u < length slacks) × Within timeReach (getD slacks u (pos 0))
 
+-- what a score asks: the number at v, and the branch cost
+abbrev pub CanScore : ℤ → List ℤ → ℕ → Type 0
+CanScore branch slacks v = (v < length slacks) × Within timeReach (getD slacks v (pos 0)) × Within timeReach branch
+
 -- no branch point has more room than every sink
 abbrev pub NoneRoomier : ℕ → ℕ → List ℕ → List ℤ → Type 0
 NoneRoomier n k sinks slacks = (b : ℕ) → n < b → b ≤ n + k → (i : ℕ) × (i < suc k) × (getD slacks b (pos 0) ≤ℤ getD slacks (getD sinks i 0) (pos 0))

@@ -11,7 +11,7 @@ ghost use Rattle.tree.specs.Net.{Net, size};
 ghost use Rattle.tree.specs.Limits.{positionLimit};
 ghost use Rattle.tree.specs.Arrays.{pointAt};
 ghost use Rattle.tree.specs.SmallestSlack.{InTree, Gathered, score, worstWith};
-ghost use Rattle.tree.specs.Choice.{farAt, firstOf, edgeTo, scoredAt, roomierOf, RoomiestFrom, BestEnd, BestEdge, SinkEnd, SinkFrom, AnyEnd, PlacesWithin, SinkWithin, NoneRoomier, FirstAsGood};
+ghost use Rattle.tree.specs.Choice.{farAt, firstOf, edgeTo, scoredAt, roomierOf, RoomiestFrom, BestEnd, BestEdge, SinkEnd, SinkFrom, AnyEnd, PlacesWithin, SinkWithin, CanScore, NoneRoomier, FirstAsGood};
 use crate::measure::point;
 use quantities::length::Length;
 use quantities::point::distance;
@@ -32,7 +32,7 @@ pub struct Scored {
 
 // What the worst slack becomes if the edge to v is split, from the gathered numbers: the new sink is never worse off than the worst under v.
 pub fn score_of(slacks: &[i64], branch: Time, v: usize) -> Time
-    requires { ⌜ (v < length (now slacks)) × Within timeReach (getD (now slacks) v (pos 0)) × Within timeReach (branch .0) ⌝ }
+    requires { ⌜ CanScore (branch .0) (now slacks) v ⌝ }
     ensures number { λ r. ⌜ r .0 ≡ score (branch .0) (now (slacks .entry)) v ⌝ }
     ensures worst { λ r. ⌜ ((N : Net) (j : ℕ) → 1 ≤ N .branch → branch .0 ≡ pos (N .branch) → suc j < size N → Gathered N j (now (slacks .entry)) → InTree N j v → r .0 ≡ worstWith N j v) ⌝ }
 {
@@ -44,7 +44,7 @@ pub fn score_of(slacks: &[i64], branch: Time, v: usize) -> Time
 
 // Whether less than `score` would be left under v if the edge to v is split.
 fn lacks_room(slacks: &[i64], branch: Time, v: usize, score: Time) -> bool
-    requires { ⌜ (v < length (now slacks)) × Within timeReach (getD (now slacks) v (pos 0)) × Within timeReach (branch .0) ⌝ }
+    requires { ⌜ CanScore (branch .0) (now slacks) v ⌝ }
     ensures { λ r. ⌜ r ≡ ltZ (getD (now (slacks .entry)) v (pos 0) -ℤ branch .0) (score .0) ⌝ }
 {
     Time::of(slacks[v]).minus(branch).is_less(score)
@@ -77,7 +77,7 @@ fn nearer_of(a: Edge, b: Edge) -> Edge
 
 // The better of the best sink so far and the one at place i of the order: this only where it scores more.
 fn or_roomier(best: Scored, sinks: &[usize], slacks: &[i64], branch: Time, i: usize) -> Scored
-    requires { ⌜ (i < length (now sinks)) × (getD (now sinks) i 0 < length (now slacks)) × Within timeReach (getD (now slacks) (getD (now sinks) i 0) (pos 0)) × Within timeReach (branch .0) ⌝ }
+    requires { ⌜ (i < length (now sinks)) × CanScore (branch .0) (now slacks) (getD (now sinks) i 0) ⌝ }
     ensures { λ r. ⌜ r ≡ roomierOf (scoredAt (score (branch .0) (now (slacks .entry))) (now (sinks .entry)) i) best ⌝ }
 {
     let score = score_of(slacks, branch, sinks[i]);
@@ -91,8 +91,8 @@ fn or_roomier(best: Scored, sinks: &[usize], slacks: &[i64], branch: Time, i: us
 // The sink of the best score, looked for from the last of the first m: those that went in last have the most room. No edge scores more than the worst slack,
 // so the search ends at the first that keeps it.
 fn roomiest(m: usize, sinks: &[usize], slacks: &[i64], branch: Time) -> Scored
-    requires { ⌜ (1 ≤ m) × (m ≤ length (now sinks)) × Within timeReach (branch .0) ⌝ }
-    requires { ⌜ ((i : ℕ) → i < m → (getD (now sinks) i 0 < length (now slacks)) × Within timeReach (getD (now slacks) (getD (now sinks) i 0) (pos 0))) ⌝ }
+    requires { ⌜ (1 ≤ m) × (m ≤ length (now sinks)) ⌝ }
+    requires { ⌜ ((i : ℕ) → i < m → CanScore (branch .0) (now slacks) (getD (now sinks) i 0)) ⌝ }
     ensures { λ r. ⌜ RoomiestFrom (score (branch .0) (now (slacks .entry))) (now (sinks .entry)) 0 m r ⌝ }
 {
     let worst = Time::of(slacks[0]);
@@ -186,7 +186,7 @@ fn best_sink(
 
 // Whether the edge to v scores less than `least`.
 fn scores_less(slacks: &[i64], branch: Time, v: usize, least: Time) -> bool
-    requires { ⌜ (v < length (now slacks)) × Within timeReach (getD (now slacks) v (pos 0)) × Within timeReach (branch .0) ⌝ }
+    requires { ⌜ CanScore (branch .0) (now slacks) v ⌝ }
     ensures { λ r. ⌜ r ≡ ltZ (score (branch .0) (now (slacks .entry)) v) (least .0) ⌝ }
 {
     score_of(slacks, branch, v).is_less(least)

@@ -24,8 +24,8 @@ use Rattle.tree.proofs.Laws.Growing.{PartTree, Inner, hops-up}
 use Rattle.tree.proofs.Laws.Insertion.{Least, ≤ℤ-trans}
 use Rattle.tree.proofs.Laws.SinkEdge.{in-pos, meet-self}
 use Rattle.tree.proofs.Laws.Steps.{inserted}
-use Rattle.tree.proofs.Laws.Sums.{equal?, down-in, down-once, with-in, in-with}
-use Rattle.tree.proofs.Laws.TreeAfter.{t, inserted-count, to-vertex, from-vertex, slack-is, worst-least, least-of, some-length}
+use Rattle.tree.proofs.Laws.Sums.{equal?, down-in, down-once, some-length, with-in, in-with}
+use Rattle.tree.proofs.Laws.TreeAfter.{t, inserted-count, to-vertex, from-vertex, slack-is, worst-least, least-of}
 use Rattle.tree.proofs.Laws.Under.{under-child, root-child, under-parent, under-sink, some-child}
 use Rattle.tree.proofs.Laws.Walks.{hops, hops-le}
 use Rattle.tree.proofs.Laws.WorstAfter.{LeastBelow, least-one, before}

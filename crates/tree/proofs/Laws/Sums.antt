@@ -159,6 +159,10 @@ sumOver-change (y ∷ l) f g x h = go (sumOver-change l f g x (λ z q. h z (omeg
     go ih (inl e) = rw (← e) (rw (delta-self x) (omega arith))
     go ih (inr d) = rw (delta-ne x y d) (omega (arith, h y (omega (arith, delta-self y)) (λ e. d (sym e))))
 
+pub some-length : (l : List ℕ) (y : ℕ) → count y l ≢ 0 → 0 < length l
+some-length [] y h = absurd (h refl)
+some-length (x ∷ l) y h = omega arith
+
 -- ---- what passes a test stands among those of the list that do
 
 module _ (test : ℕ → Bool) where

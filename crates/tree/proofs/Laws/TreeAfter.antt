@@ -24,7 +24,7 @@ use Rattle.tree.proofs.Laws.Planning.{least-law, count-append, order-le
 use Rattle.tree.proofs.Laws.Scores.{before-is}
 use Rattle.tree.proofs.Laws.SinkEdge.{in-pos}
 use Rattle.tree.proofs.Laws.Steps.{newest-count, inserted, inserted-in, grown-at}
-use Rattle.tree.proofs.Laws.Sums.{delta-ne, equal?, down-in, with-in, in-with}
+use Rattle.tree.proofs.Laws.Sums.{delta-ne, equal?, down-in, some-length, with-in, in-with}
 use Rattle.tree.proofs.Laws.Under.{path-meet, path-hops, meet-add, some-sink}
 use Rattle.tree.proofs.Laws.Walks.{hops, hops-add}
 use Rattle.tree.proofs.Laws.WorstAfter.{LeastBelow, least-one, before}
@@ -55,10 +55,6 @@ in-under T v l y h q = in-with (isUnder T v) l y h (lt-ltb 0 (count v (0 ∷ pat
 pub all-under : (T : Tree) (l : List ℕ) → sinksUnder T 0 l ≡ l
 all-under T [] = refl
 all-under T (s ∷ l) = ap (λ (b : Bool). cond b (s ∷ sinksUnder T 0 l) (sinksUnder T 0 l)) (lt-ltb 0 (count 0 (0 ∷ path T s)) (omega arith)) ∙ ap (λ (r : List ℕ). s ∷ r) (all-under T l)
-
-pub some-length : (l : List ℕ) (y : ℕ) → count y l ≢ 0 → 0 < length l
-some-length [] y h = absurd (h refl)
-some-length (x ∷ l) y h = omega arith
 
 -- ---- the tree
 

@@ -1,4 +1,4 @@
-use mathlib.Core.Path.{_≡_, _∙_}
+use mathlib.Core.Path.{_∙_}
 use mir.Facts.{toZ-ofZ}
 use Rattle.quantities.specs.Median.{median, medianPoint}
 use Rattle.quantities.specs.Linear.{fit}

@@ -16,7 +16,7 @@ use Rattle.tree.proofs.choose.best_sink.Tie as tie
 roomiest-requires : tie.Need-roomiest-requires
 roomiest-requires c κs =
     let p = c .before .pre in
-    ((p .0 .2, p .0 .3, p .0 .4), λ i l. let q = p .1 i l in (q .1, q .2))
+    ((p .0 .2, p .0 .3), λ i l. let q = p .1 i l in (q .1, q .2, p .0 .4))
 
 mul-u : tie.Need-mul-u
 mul-u c = search needs

@@ -40,7 +40,7 @@ score-of-requires : tie.Need-score-of-requires Inv-loop μ-loop
 score-of-requires c κs =
     let p = c .before .before .before .before .pre in
     let q = p .1 (c .before .before .before .before .args .m - 1) (omega arith) in
-    (q .0, q .1, p .0 .2)
+    q
 
 loop-holds : tie.Need-loop-holds Inv-loop μ-loop
 loop-holds c =
@@ -60,7 +60,7 @@ or-roomier-requires c κs =
     let p = c .before .before .before .before .before .before .before .before .before .pre in
     let l = c .before .before .before .loop in
     let q = p .1 (l .i - 1) (omega arith) in
-    (omega arith, q .0, q .1, p .0 .2)
+    (omega arith, q)
 
 loop-less : tie.Need-loop-less Inv-loop μ-loop
 loop-less c = search needs

@@ -1,5 +1,5 @@
 use native.Mathlib.Omega.{arith}
-use mathlib.Core.Path.{_≡_, sym, subst, ap₂}
+use mathlib.Core.Path.{sym, subst, ap₂}
 use lib.IntN.{_*ℤ_}
 use mir.Facts.{toZ-ofZ}
 use Rattle.quantities.specs.Reach.{termReach, factorReach}
