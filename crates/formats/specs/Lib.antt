@@ -1,18 +1,12 @@
--- What the contracts of this crate say, and what its theorems speak of; bottom first.
+-- What a reviewer believes of the two texts, bottom first.
+pub mod Limits
 pub mod Decimal
 pub mod Bytes
 pub mod Line
-pub mod Scanning
+pub mod Refusals
 pub mod Reading
 pub mod NetText
 pub mod ListingText
-pub mod Writing
-pub mod Ranging
-pub mod Readers
-pub mod ListingReader
-pub mod Refusals
-pub mod Answers
-pub mod Emitting
-pub mod Demands
-pub mod FarPins
-pub mod Marked
+pub mod FirstFar
+-- What serves the contracts of inner functions. Nothing of it need be believed.
+pub mod Inner

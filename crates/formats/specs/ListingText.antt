@@ -3,23 +3,24 @@ use Prim.Native.Nat.{ℕ, zero, suc, _+_, _*_, _-_, _≤_, _<_}
 use mathlib.Core.Path.{_≡_}
 use mathlib.Core.Logic.{_⊎_}
 use mathlib.Core.Bool.{Bool, true, false, _&&_}
-use mathlib.Core.List.{List, [], _∷_, _++_}
+use mathlib.Core.List.{List, [], _∷_, _++_, map}
 use lib.ListN.{length, getD}
 use lib.Dec.{ltb, leb, eqb}
 use lib.IntN.{ℤ, pos, natAbs}
 use Rattle.quantities.specs.declared.point.Point.{Point}
-use Rattle.quantities.specs.Reach.{Within, PointWithin}
+use Rattle.quantities.specs.Ranges.{Within, PointWithin}
 use Rattle.tree.specs.Net.{sinkNumbers, branchNumbers}
 use Rattle.tree.specs.Tree.{Tree, parentOf}
 use Rattle.tree.specs.Limits.{positionLimit, sinkLimit, slackLimit, wireLimit}
 use Rattle.formats.specs.Bytes.{bytes}
 use Rattle.formats.specs.Line.{lineText}
-use Rattle.formats.specs.Reading.{Range, at, Outcome, refused, due, dueFor, ended}
-use Rattle.formats.specs.NetText.{wireKey, sinksKey, around, upTo}
-
--- "a listing 24,576"
-abbrev pub listingLengthLimit : ℕ
-listingLengthLimit = 24_576
+use Rattle.formats.specs.Limits.{listingLengthLimit}
+use Rattle.formats.specs.Reading.{around, upTo, fromZero, Outcome, value, refused, andThen, Read, reading, at, dueNumber, dueNatural, dueFor, ended}
+use Rattle.formats.specs.NetText.{wireKey, sinksKey, positionRanges}
+use Rattle.formats.specs.declared.ranges.Range.{Range}
+use Rattle.formats.specs.declared.refusal.Text.the-variants.{InListing}
+use Rattle.formats.specs.declared.refusal.Refusal.{Refusal}
+use Rattle.formats.specs.declared.refusal.Refusal.the-variants.{TooLong, NotDue, OutOfRange, BytesFollow, OtherCount, SinkParent}
 
 -- a listing: the stated slack and wire, and "the tree that a listing gives"
 pub record Listing : Type 0 where
@@ -80,22 +81,43 @@ pub record ListingInFormat (n : ℕ) (s : List ℕ) (G : Listing) : Type 0 where
   pub short : length s ≤ listingLengthLimit
   pub no-sink : (i : ℕ) → i < length (G .tree .parents) → (getD (G .tree .parents) i 0 ≡ 0) ⊎ (n < getD (G .tree .parents) i 0)
 
--- the refusals of a listing of a net of n sinks, by number and line: 1 has line 0, 2 and 3 one of the 2n + 2 lines, 4 the line after the last,
--- 7 the line of the count, 8 the line of a vertex
-pub data ListingRefusal (n : ℕ) : ℕ → ℕ → Type 0 where
-  too-long : ListingRefusal n 1 0
-  not-due : {l : ℕ} → 1 ≤ l → l ≤ 2 * n + 2 → ListingRefusal n 2 l
-  out-of-range : {l : ℕ} → 1 ≤ l → l ≤ 2 * n + 2 → ListingRefusal n 3 l
-  bytes-follow : ListingRefusal n 4 (2 * n + 3)
-  other-count : ListingRefusal n 7 3
-  parent-sink : {l : ℕ} → 4 ≤ l → l ≤ 2 * n + 2 → ListingRefusal n 8 l
+-- the refusals of a listing of a net of n sinks: 2 and 3 on one of the 2n + 2 lines, 4 on the line after the last, 8 on the line of a vertex
+pub data ListingRefusal (n : ℕ) : Refusal → Type 0 where
+  too-long : ListingRefusal n (TooLong InListing)
+  not-due : {l : ℕ} → 1 ≤ l → l ≤ 2 * n + 2 → ListingRefusal n (NotDue InListing l)
+  out-of-range : {l : ℕ} → 1 ≤ l → l ≤ 2 * n + 2 → ListingRefusal n (OutOfRange InListing l)
+  bytes-follow : ListingRefusal n (BytesFollow InListing (2 * n + 3))
+  other-count : ListingRefusal n OtherCount
+  parent-sink : {l : ℕ} → 4 ≤ l → l ≤ 2 * n + 2 → ListingRefusal n (SinkParent l)
 
 -- ---- reading
 
--- "P 0 to 2n-1", "L 0 to .."
-abbrev pub fromZero : ℕ → Range
-fromZero k = record { from = pos 0; to = pos k }
+-- what a listing says before its vertices
+pub record Stated : Type 0 where
+  pub slack : ℤ
+  pub wire : ℕ
 
+abbrev pub dueSlack : List ℕ → Outcome (Read ℤ)
+dueSlack s = dueNumber InListing 1 slackKey (around slackLimit) s
+
+abbrev pub dueTotal : List ℕ → Outcome (Read ℕ)
+dueTotal s = dueNatural InListing 2 wireKey (fromZero wireLimit) s
+
+-- "7: n is not the net's", after 2 and 3 on line 3
+abbrev pub sameOnly : ℕ → Read ℕ → Outcome (Read ℕ)
+sameOnly n count = elim (eqb (count .got) n) [ true ↦ value count | false ↦ refused OtherCount ]
+
+abbrev pub dueSame : ℕ → List ℕ → Outcome (Read ℕ)
+dueSame n s = andThen (dueNatural InListing 3 sinksKey (upTo sinkLimit) s) (sameOnly n)
+
+abbrev pub readStated : ℕ → List ℕ → Outcome (Read Stated)
+readStated n s =
+    andThen (dueSlack s) λ slack.
+    andThen (dueTotal (slack .rest)) λ wire.
+    andThen (dueSame n (wire .rest)) λ count.
+    value (record { got = record { slack = slack .got; wire = wire .got }; rest = count .rest })
+
+-- "P 0 to 2n-1"
 abbrev pub parentRange : ℕ → Range
 parentRange n = fromZero (2 * n - 1)
 
@@ -103,39 +125,52 @@ parentRange n = fromZero (2 * n - 1)
 abbrev pub isSink : ℕ → ℕ → Bool
 isSink n p = leb 1 p && leb p n
 
+-- what the line of a vertex says: its parent; and of a branch point, where it stands
+pub record Vertex : Type 0 where
+  pub parent : ℕ
+  pub point : Point
+
+abbrev pub vertexOf : List ℤ → Vertex
+vertexOf zs = record { parent = natAbs (at zs 0); point = record { x = at zs 1; y = at zs 2 } }
+
 -- "8: P is a sink", after 2 and 3 on the line
-abbrev pub noSink : {A : Type 0} → ℕ → ℕ → ℕ → Outcome A → Outcome A
-noSink n l p next = elim (isSink n p) [ true ↦ refused 8 l | false ↦ next ]
+abbrev pub noSink : ℕ → ℕ → Read Vertex → Outcome (Read Vertex)
+noSink n l v = elim (isSink n (v .got .parent)) [ true ↦ refused (SinkParent l) | false ↦ value v ]
 
--- j lines of leaves, from vertex k on. "Vertex k stands on line k+3."
-abbrev pub readLeaves : {A : Type 0} → ℕ → ℕ → ℕ → List ℕ → (List ℕ → List ℕ → Outcome A) → Outcome A
-readLeaves n zero k s next = next [] s
-readLeaves n (suc j) k s next =
-    dueFor (k + 3) leafKey k (parentRange n ∷ []) s λ zs r.
-    noSink n (k + 3) (natAbs (at zs 0)) (readLeaves n j (suc k) r (λ parents q. next (natAbs (at zs 0) ∷ parents) q))
+-- the line of vertex k, by its key and the ranges after P's. "Vertex k stands on line k+3."
+abbrev pub dueVertex : List ℕ → List Range → ℕ → ℕ → List ℕ → Outcome (Read Vertex)
+dueVertex key ranges n k s = andThen (reading vertexOf (dueFor InListing (k + 3) key k (parentRange n ∷ ranges) s)) (noSink n (k + 3))
 
--- j lines of nodes, from vertex k on
-abbrev pub readNodes : {A : Type 0} → ℕ → ℕ → ℕ → List ℕ → (List ℕ → List Point → List ℕ → Outcome A) → Outcome A
-readNodes n zero k s next = next [] [] s
-readNodes n (suc j) k s next =
-    dueFor (k + 3) nodeKey k (parentRange n ∷ (around positionLimit ∷ (around positionLimit ∷ []))) s λ zs r.
-    noSink n (k + 3) (natAbs (at zs 0))
-    (readNodes n j (suc k) r (λ parents points q. next (natAbs (at zs 0) ∷ parents) (record { x = at zs 1; y = at zs 2 } ∷ points) q))
+abbrev pub dueLeaf : ℕ → ℕ → List ℕ → Outcome (Read Vertex)
+dueLeaf n k s = dueVertex leafKey [] n k s
 
--- "7: n is not the net's", after 2 and 3 on line 3
-abbrev pub sameCount : {A : Type 0} → ℕ → ℕ → Outcome A → Outcome A
-sameCount n m next = elim (eqb m n) [ true ↦ next | false ↦ refused 7 3 ]
+abbrev pub dueNode : ℕ → ℕ → List ℕ → Outcome (Read Vertex)
+dueNode n k s = dueVertex nodeKey positionRanges n k s
+
+-- j lines of vertices, from vertex k on, each by its step
+abbrev pub readVertices : (ℕ → List ℕ → Outcome (Read Vertex)) → ℕ → ℕ → List ℕ → Outcome (Read (List Vertex))
+readVertices line zero k s = value (record { got = []; rest = s })
+readVertices line (suc j) k s = andThen (line k s) λ v. reading (λ l. v .got ∷ l) (readVertices line j (suc k) (v .rest))
+
+abbrev pub parentsIn : List Vertex → List ℕ
+parentsIn l = map (λ v. v .parent) l
+
+abbrev pub pointsIn : List Vertex → List Point
+pointsIn l = map (λ v. v .point) l
+
+-- the lines of the leaves and of the nodes, and the text's end
+abbrev pub readTree : ℕ → List ℕ → Outcome Tree
+readTree n s =
+    andThen (readVertices (dueLeaf n) n 1 s) λ leaves.
+    andThen (readVertices (dueNode n) (n - 1) (suc n) (leaves .rest)) λ nodes.
+    ended InListing (2 * n + 3) (record { parents = parentsIn (leaves .got) ++ parentsIn (nodes .got); points = pointsIn (nodes .got) }) (nodes .rest)
 
 -- the listing of a net with n sinks
 abbrev pub readListingLines : ℕ → List ℕ → Outcome Listing
 readListingLines n s =
-    due 1 slackKey (around slackLimit ∷ []) s λ slack s₁.
-    due 2 wireKey (fromZero wireLimit ∷ []) s₁ λ wire s₂.
-    due 3 sinksKey (upTo sinkLimit ∷ []) s₂ λ count s₃.
-    sameCount n (natAbs (at count 0))
-    (readLeaves n n 1 s₃ λ leaves s₄.
-    readNodes n (n - 1) (suc n) s₄ λ nodes points s₅.
-    ended (2 * n + 3) s₅ (record { slack = at slack 0; wire = natAbs (at wire 0); tree = record { parents = leaves ++ nodes; points = points } }))
+    andThen (readStated n s) λ stated.
+    andThen (readTree n (stated .rest)) λ tree.
+    value (record { slack = stated .got .slack; wire = stated .got .wire; tree = tree })
 
 unfoldable pub readListing : ℕ → List ℕ → Outcome Listing
-readListing n s = elim (ltb listingLengthLimit (length s)) [ true ↦ refused 1 0 | false ↦ readListingLines n s ]
+readListing n s = elim (ltb listingLengthLimit (length s)) [ true ↦ refused (TooLong InListing) | false ↦ readListingLines n s ]

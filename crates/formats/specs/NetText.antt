@@ -5,22 +5,20 @@ use mathlib.Core.Bool.{true, false}
 use mathlib.Core.List.{List, [], _∷_, _++_}
 use lib.ListN.{length}
 use lib.Dec.{ltb}
-use lib.IntN.{ℤ, pos, negℤ, natAbs}
+use lib.IntN.{ℤ, pos}
 use Rattle.quantities.specs.declared.point.Point.{Point}
+use Rattle.quantities.specs.declared.wire_factor.WireFactor.{WireFactor}
 use Rattle.quantities.specs.Distance.{distance}
 use Rattle.tree.specs.Net.{Net, Sink, size, sinkAt}
 use Rattle.tree.specs.Limits.{positionLimit, branchLimit, wireFactorLimit, needLimit, sinkLimit, requiredLimit, InRange}
 use Rattle.formats.specs.Bytes.{bytes}
 use Rattle.formats.specs.Line.{lineText}
-use Rattle.formats.specs.Reading.{Range, at, Outcome, refused, due, ended}
-
--- "A net text has at most 20,480 bytes"
-abbrev pub netLengthLimit : ℕ
-netLengthLimit = 20_480
-
--- 02, request 2: "A sink more than 40,000 micrometres from the root is refused in every call that reads a net."
-abbrev pub pinLimit : ℕ
-pinLimit = 40_000
+use Rattle.formats.specs.Limits.{netLengthLimit, pinLimit}
+use Rattle.formats.specs.Reading.{around, upTo, Outcome, value, refused, andThen, Read, reading, at, due, dueNumber, dueNatural, ended}
+use Rattle.formats.specs.declared.ranges.Range.{Range}
+use Rattle.formats.specs.declared.refusal.Text.the-variants.{InNet}
+use Rattle.formats.specs.declared.refusal.Refusal.{Refusal}
+use Rattle.formats.specs.declared.refusal.Refusal.the-variants.{TooLong, NotDue, OutOfRange, BytesFollow, FarPin}
 
 -- ---- the bytes of a net
 
@@ -44,7 +42,7 @@ sinkKey = bytes "sink="
 
 -- `sink=X,Y,a`
 abbrev pub sinkText : Sink → List ℕ
-sinkText s = lineText sinkKey (s .at .x ∷ (s .at .y ∷ (s .required ∷ [])))
+sinkText s = lineText sinkKey (s .point .x ∷ (s .point .y ∷ (s .required ∷ [])))
 
 abbrev pub sinksText : List Sink → List ℕ
 sinksText [] = []
@@ -55,7 +53,7 @@ unfoldable pub netLines : ℕ → Net → List ℕ
 netLines n N =
     lineText rootKey (N .root .x ∷ (N .root .y ∷ []))
     ++ (lineText branchKey (pos (N .branch) ∷ [])
-    ++ (lineText wireKey (pos (N .wire) ∷ [])
+    ++ (lineText wireKey (pos (N .wire .0) ∷ [])
     ++ (lineText needKey (N .need ∷ [])
     ++ (lineText sinksKey (pos n ∷ [])
     ++ sinksText (N .sinks)))))
@@ -76,62 +74,91 @@ pub record InFormat (s : List ℕ) (N : Net) : Type 0 where
   pub near : (v : ℕ) → 1 ≤ v → v ≤ size N → pinDistance N v ≤ pinLimit
   pub short : length s ≤ netLengthLimit
 
--- the refusals of a net text, by number and line: 1 has line 0, 2 and 3 one of the at most 5 + 512 lines, 4 the line after the last, 13 a sink's line
-pub data NetRefusal : ℕ → ℕ → Type 0 where
-  too-long : NetRefusal 1 0
-  not-due : {l : ℕ} → 1 ≤ l → l ≤ 5 + sinkLimit → NetRefusal 2 l
-  out-of-range : {l : ℕ} → 1 ≤ l → l ≤ 5 + sinkLimit → NetRefusal 3 l
-  bytes-follow : {l : ℕ} → 7 ≤ l → l ≤ 6 + sinkLimit → NetRefusal 4 l
-  pin-far : {l : ℕ} → 6 ≤ l → l ≤ 5 + sinkLimit → NetRefusal 13 l
+-- the refusals of a net text: 2 and 3 on one of the at most 5 + 512 lines, 4 on the line after the last, 13 on a sink's line
+pub data NetRefusal : Refusal → Type 0 where
+  too-long : NetRefusal (TooLong InNet)
+  not-due : {l : ℕ} → 1 ≤ l → l ≤ 5 + sinkLimit → NetRefusal (NotDue InNet l)
+  out-of-range : {l : ℕ} → 1 ≤ l → l ≤ 5 + sinkLimit → NetRefusal (OutOfRange InNet l)
+  bytes-follow : {l : ℕ} → 7 ≤ l → l ≤ 6 + sinkLimit → NetRefusal (BytesFollow InNet l)
+  pin-far : {l : ℕ} → 6 ≤ l → l ≤ 5 + sinkLimit → NetRefusal (FarPin l)
 
 -- ---- reading
 
--- from -k to k, and from 1 to k
-abbrev pub around : ℕ → Range
-around k = record { from = negℤ (pos k); to = pos k }
+-- what a net says before its sinks
+pub record Head : Type 0 where
+  pub root : Point
+  pub branch : ℕ
+  pub wire : WireFactor
+  pub need : ℤ
+  pub count : ℕ
 
-abbrev pub upTo : ℕ → Range
-upTo k = record { from = pos 1; to = pos k }
-
-abbrev pub sinkRanges : List Range
-sinkRanges = around positionLimit ∷ (around positionLimit ∷ (around requiredLimit ∷ []))
+abbrev pub positionRanges : List Range
+positionRanges = around positionLimit ∷ (around positionLimit ∷ [])
 
 -- a line's first two numbers are a point
 abbrev pub pointOf : List ℤ → Point
 pointOf zs = record { x = at zs 0; y = at zs 1 }
 
-abbrev pub sinkOf : List ℤ → Sink
-sinkOf zs = record { at = pointOf zs; required = at zs 2 }
+-- one step for each kind of line
+abbrev pub dueRoot : List ℕ → Outcome (Read Point)
+dueRoot s = reading pointOf (due InNet 1 rootKey positionRanges s)
 
--- 02, request 2: "Turned away: 13, text 1, the sink's line"; else what comes next gets the sink
-abbrev pub nearThen : {A : Type 0} → Point → ℕ → (Sink → List ℕ → Outcome A) → List ℤ → List ℕ → Outcome A
-nearThen root l next zs r = elim (ltb pinLimit (distance root (pointOf zs))) [ true ↦ refused 13 l | false ↦ next (sinkOf zs) r ]
+abbrev pub dueBranch : List ℕ → Outcome (Read ℕ)
+dueBranch s = dueNatural InNet 2 branchKey (upTo branchLimit) s
+
+abbrev pub dueWire : List ℕ → Outcome (Read WireFactor)
+dueWire s = reading (λ d. record { 0 = d }) (dueNatural InNet 3 wireKey (upTo wireFactorLimit) s)
+
+abbrev pub dueNeed : List ℕ → Outcome (Read ℤ)
+dueNeed s = dueNumber InNet 4 needKey (around needLimit) s
+
+abbrev pub dueCount : List ℕ → Outcome (Read ℕ)
+dueCount s = dueNatural InNet 5 sinksKey (upTo sinkLimit) s
+
+abbrev pub readHead : List ℕ → Outcome (Read Head)
+readHead s =
+    andThen (dueRoot s) λ root.
+    andThen (dueBranch (root .rest)) λ branch.
+    andThen (dueWire (branch .rest)) λ wire.
+    andThen (dueNeed (wire .rest)) λ need.
+    andThen (dueCount (need .rest)) λ count.
+    value (record {
+      got = record { root = root .got; branch = branch .got; wire = wire .got; need = need .got; count = count .got };
+      rest = count .rest;
+    })
+
+abbrev pub sinkRanges : List Range
+sinkRanges = around positionLimit ∷ (around positionLimit ∷ (around requiredLimit ∷ []))
+
+abbrev pub sinkOf : List ℤ → Sink
+sinkOf zs = record { point = pointOf zs; required = at zs 2 }
+
+-- 02, request 2: "Turned away: 13, text 1, the sink's line"
+abbrev pub nearOnly : Point → ℕ → Read Sink → Outcome (Read Sink)
+nearOnly root l sink = elim (ltb pinLimit (distance root (sink .got .point))) [ true ↦ refused (FarPin l) | false ↦ value sink ]
 
 -- the line of a sink, line l: "in each line 2, 3", and 13 "right after 3 on that line"
-abbrev pub dueSink : {A : Type 0} → Point → ℕ → List ℕ → (Sink → List ℕ → Outcome A) → Outcome A
-dueSink root l s next = due l sinkKey sinkRanges s (nearThen root l next)
+abbrev pub dueSink : Point → ℕ → List ℕ → Outcome (Read Sink)
+dueSink root l s = andThen (reading sinkOf (due InNet l sinkKey sinkRanges s)) (nearOnly root l)
 
 -- k lines of sinks, from line l on
-abbrev pub readSinks : {A : Type 0} → Point → ℕ → ℕ → List ℕ → (List Sink → List ℕ → Outcome A) → Outcome A
-readSinks root zero l s next = next [] s
-readSinks root (suc k) l s next = dueSink root l s (λ sink r. readSinks root k (suc l) r (λ sinks q. next (sink ∷ sinks) q))
+abbrev pub readSinks : Point → ℕ → ℕ → List ℕ → Outcome (Read (List Sink))
+readSinks root zero l s = value (record { got = []; rest = s })
+readSinks root (suc k) l s = andThen (dueSink root l s) λ sink. reading (λ sinks. sink .got ∷ sinks) (readSinks root k (suc l) (sink .rest))
+
+-- the lines of the n sinks, and the text's end
+abbrev pub readRest : Point → ℕ → List ℕ → Outcome (List Sink)
+readRest root n s = andThen (readSinks root n 6 s) λ sinks. ended InNet (n + 6) (sinks .got) (sinks .rest)
+
+abbrev pub netWith : Head → List Sink → Net
+netWith h sinks = record { root = h .root; branch = h .branch; wire = h .wire; need = h .need; sinks = sinks }
 
 abbrev pub readNetLines : List ℕ → Outcome Net
 readNetLines s =
-    due 1 rootKey (around positionLimit ∷ (around positionLimit ∷ [])) s λ root s₁.
-    due 2 branchKey (upTo branchLimit ∷ []) s₁ λ branch s₂.
-    due 3 wireKey (upTo wireFactorLimit ∷ []) s₂ λ wire s₃.
-    due 4 needKey (around needLimit ∷ []) s₃ λ need s₄.
-    due 5 sinksKey (upTo sinkLimit ∷ []) s₄ λ count s₅.
-    readSinks (pointOf root) (natAbs (at count 0)) 6 s₅ λ sinks s₆.
-    ended (natAbs (at count 0) + 6) s₆ (record {
-      root = pointOf root;
-      branch = natAbs (at branch 0);
-      wire = natAbs (at wire 0);
-      need = at need 0;
-      sinks = sinks;
-    })
+    andThen (readHead s) λ head.
+    andThen (readRest (head .got .root) (head .got .count) (head .rest)) λ sinks.
+    value (netWith (head .got) sinks)
 
--- "length first; then line by line"; 1 has line 0
+-- "length first; then line by line"
 unfoldable pub readNet : List ℕ → Outcome Net
-readNet s = elim (ltb netLengthLimit (length s)) [ true ↦ refused 1 0 | false ↦ readNetLines s ]
+readNet s = elim (ltb netLengthLimit (length s)) [ true ↦ refused (TooLong InNet) | false ↦ readNetLines s ]

@@ -3,14 +3,25 @@ use Prim.Native.Nat.{ℕ, suc}
 use mathlib.Core.Bool.{Bool, true, false, _&&_}
 use mathlib.Core.List.{List, [], _∷_}
 use lib.ListN.{length, getD, drop}
-use lib.IntN.{ℤ, pos}
+use lib.IntN.{ℤ, pos, negℤ, natAbs}
 use lib.Signed.{leZ}
 use Rattle.formats.specs.Line.{Row, row, misspelled, lineIn}
+use Rattle.formats.specs.declared.ranges.Range.{Range}
+use Rattle.formats.specs.declared.refusal.Text.{Text}
+use Rattle.formats.specs.declared.refusal.Refusal.{Refusal}
+use Rattle.formats.specs.declared.refusal.Refusal.the-variants.{NotDue, OutOfRange, BytesFollow}
 
--- both ends are in the range
-pub record Range : Type 0 where
-  pub from : ℤ
-  pub to : ℤ
+-- ---- ranges; both ends are in
+
+-- from -k to k, from 1 to k, from 0 to k
+abbrev pub around : ℕ → Range
+around k = record { from = negℤ (pos k); to = pos k }
+
+abbrev pub upTo : ℕ → Range
+upTo k = record { from = pos 1; to = pos k }
+
+abbrev pub fromZero : ℕ → Range
+fromZero k = record { from = pos 0; to = pos k }
 
 abbrev pub inside : Range → ℤ → Bool
 inside r z = leZ (r .from) z && leZ z (r .to)
@@ -21,39 +32,60 @@ allInside [] zs = true
 allInside (r ∷ rs) [] = false
 allInside (r ∷ rs) (z ∷ zs) = inside r z && allInside rs zs
 
+-- ---- outcomes
+
+-- a result, or the refusal
+pub data Outcome (A : Type 0) : Type 0 where
+  value : A → Outcome A
+  refused : Refusal → Outcome A
+
+-- the first refusal is the one that is told
+abbrev pub andThen : {A B : Type 0} → Outcome A → (A → Outcome B) → Outcome B
+andThen (value a) next = next a
+andThen (refused e) next = refused e
+
+-- what some lines say, and the text after them
+pub record Read (A : Type 0) : Type 0 where
+  pub got : A
+  pub rest : List ℕ
+
+-- what is made of it
+abbrev pub reading : {A B : Type 0} → (A → B) → Outcome (Read A) → Outcome (Read B)
+reading f o = andThen o λ r. value (record { got = f (r .got); rest = r .rest })
+
+-- ---- one line
+
 -- the number at place i of a line
 abbrev pub at : List ℤ → ℕ → ℤ
 at zs i = getD zs i (pos 0)
 
--- what was read, or the number and the line of a refusal
-pub data Outcome (A : Type 0) : Type 0 where
-  value : A → Outcome A
-  refused : ℕ → ℕ → Outcome A
-
--- the line l is a row: "in each line 2, 3". What comes next gets its numbers and the text after it
-abbrev pub ranged : {A : Type 0} → ℕ → List Range → List ℕ → Row → (List ℤ → List ℕ → Outcome A) → Outcome A
-ranged l ranges s misspelled next = refused 2 l
-ranged l ranges s (row zs j) next = elim (allInside ranges zs) [ true ↦ next zs (drop j s) | false ↦ refused 3 l ]
+-- the line l is a row: "in each line 2, 3"
+abbrev pub ranged : Text → ℕ → List Range → List ℕ → Row → Outcome (Read (List ℤ))
+ranged t l ranges s misspelled = refused (NotDue t l)
+ranged t l ranges s (row zs j) = elim (allInside ranges zs) [ true ↦ value (record { got = zs; rest = drop j s }) | false ↦ refused (OutOfRange t l) ]
 
 -- line l, due at the start of s: a key, and a number for each range.
 -- "2: the line due here is missing, lacks its end byte, or has another key, shape, spelling .. than is due"; "3: a number is out of range"
-abbrev pub due : {A : Type 0} → ℕ → List ℕ → List Range → List ℕ → (List ℤ → List ℕ → Outcome A) → Outcome A
-due l key ranges s next = ranged l ranges s (lineIn key (length ranges) s) next
+abbrev pub due : Text → ℕ → List ℕ → List Range → List ℕ → Outcome (Read (List ℤ))
+due t l key ranges s = ranged t l ranges s (lineIn key (length ranges) s)
 
--- the same for a line whose first number is k: "or k than is due" is a refusal by 2
-abbrev pub rangedAfter : {A : Type 0} → ℕ → ℕ → List Range → List ℕ → Row → (List ℤ → List ℕ → Outcome A) → Outcome A
-rangedAfter l k ranges s misspelled next = refused 2 l
-rangedAfter l k ranges s (row [] j) next = refused 2 l
-rangedAfter l k ranges s (row (z ∷ zs) j) next =
-    elim (leZ z (pos k) && leZ (pos k) z) [
-      | true ↦ elim (allInside ranges zs) [ true ↦ next zs (drop j s) | false ↦ refused 3 l ]
-      | false ↦ refused 2 l
-    ]
+-- a line of one number, and one whose number is not negative
+abbrev pub dueNumber : Text → ℕ → List ℕ → Range → List ℕ → Outcome (Read ℤ)
+dueNumber t l key range s = reading (λ zs. at zs 0) (due t l key (range ∷ []) s)
 
-abbrev pub dueFor : {A : Type 0} → ℕ → List ℕ → ℕ → List Range → List ℕ → (List ℤ → List ℕ → Outcome A) → Outcome A
-dueFor l key k ranges s next = rangedAfter l k ranges s (lineIn key (suc (length ranges)) s) next
+abbrev pub dueNatural : Text → ℕ → List ℕ → Range → List ℕ → Outcome (Read ℕ)
+dueNatural t l key range s = reading natAbs (dueNumber t l key range s)
+
+-- a line whose first number is k: "or k than is due" is a refusal by 2. What is got are the numbers after it
+abbrev pub rangedAfter : Text → ℕ → ℕ → List Range → List ℕ → Row → Outcome (Read (List ℤ))
+rangedAfter t l k ranges s misspelled = refused (NotDue t l)
+rangedAfter t l k ranges s (row [] j) = refused (NotDue t l)
+rangedAfter t l k ranges s (row (z ∷ zs) j) = elim (leZ z (pos k) && leZ (pos k) z) [ true ↦ ranged t l ranges s (row zs j) | false ↦ refused (NotDue t l) ]
+
+abbrev pub dueFor : Text → ℕ → List ℕ → ℕ → List Range → List ℕ → Outcome (Read (List ℤ))
+dueFor t l key k ranges s = rangedAfter t l k ranges s (lineIn key (suc (length ranges)) s)
 
 -- "4: bytes follow the last line", on the line after it
-abbrev pub ended : {A : Type 0} → ℕ → List ℕ → A → Outcome A
-ended l [] a = value a
-ended l (b ∷ s) a = refused 4 l
+abbrev pub ended : {A : Type 0} → Text → ℕ → A → List ℕ → Outcome A
+ended t l a [] = value a
+ended t l a (b ∷ s) = refused (BytesFollow t l)

@@ -1,23 +1,40 @@
--- The table of document 01, 'Refusals by text and line': which number goes with which text and line. Definitions alone.
-use Prim.Native.Nat.{ℕ, _+_, _*_, _≤_, _<_}
-use Rattle.formats.specs.NetText.{NetRefusal}
-use Rattle.formats.specs.ListingText.{ListingRefusal}
+-- The refusals, by number, text and line: document 01, 'Refusals by text and line', with the row of 02's request 2. Definitions alone.
+use Prim.Native.Nat.{ℕ}
+use Rattle.formats.specs.declared.refusal.Text.{Text}
+use Rattle.formats.specs.declared.refusal.Text.the-variants.{InNet, InListing}
+use Rattle.formats.specs.declared.refusal.Refusal.{Refusal}
+use Rattle.formats.specs.declared.refusal.Refusal.the-variants.{TooLong, NotDue, OutOfRange, BytesFollow, Unreachable, TooShort, OtherCount, SinkParent, WrongChildren, NotReached, OtherSlack, OtherWire, FarPin}
+use Rattle.formats.specs.declared.refusal.Told.{Told}
 
--- number, text and line; 0, 0, 0 where nothing is refused
-pub data PlanRow : ℕ → ℕ → ℕ → Type 0 where
-  planned : PlanRow 0 0 0
-  in-net : (number line : ℕ) → NetRefusal number line → PlanRow number 1 line
-  unreachable : PlanRow 5 1 4
-  too-short : PlanRow 6 0 0
+-- "Text 1 is the net, 2 the listing, 0 neither."
+abbrev pub textNumber : Text → ℕ
+textNumber InNet = 1
+textNumber InListing = 2
 
--- n is the net's number of sinks
-pub data JudgeRow : ℕ → ℕ → ℕ → Type 0 where
-  accepted : JudgeRow 0 0 0
-  in-net : (number line : ℕ) → NetRefusal number line → JudgeRow number 1 line
-  in-listing : (n number line : ℕ) → ListingRefusal n number line → JudgeRow number 2 line
-  -- "line 0 for the root, else the lowest such branch point's"
-  root-children : JudgeRow 9 2 0
-  branch-children : (n v : ℕ) → n < v → v < 2 * n → JudgeRow 9 2 (v + 3)
-  not-reached : (n v : ℕ) → 1 ≤ v → v < 2 * n → JudgeRow 10 2 (v + 3)
-  other-slack : JudgeRow 11 2 1
-  other-wire : JudgeRow 12 2 2
+-- number, text and line of every refusal
+abbrev pub told : Refusal → Told
+-- "the text is over its length"
+told (TooLong text) = record { number = 1; text = textNumber text; line = 0 }
+-- "the line due here is missing, lacks its end byte, or has another key, shape, spelling or k than is due"
+told (NotDue text line) = record { number = 2; text = textNumber text; line = line }
+-- "a number is out of range"
+told (OutOfRange text line) = record { number = 3; text = textNumber text; line = line }
+-- "bytes follow the last line"
+told (BytesFollow text line) = record { number = 4; text = textNumber text; line = line }
+-- "plan: no legal tree has worst slack t or more"
+told Unreachable = record { number = 5; text = 1; line = 4 }
+-- "plan: the output is shorter than the listing"
+told TooShort = record { number = 6; text = 0; line = 0 }
+-- "n is not the net's"
+told OtherCount = record { number = 7; text = 2; line = 3 }
+-- "P is a sink"
+told (SinkParent line) = record { number = 8; text = 2; line = line }
+-- "wrong number of children"
+told (WrongChildren line) = record { number = 9; text = 2; line = line }
+-- "the lowest vertex not reached from the root"
+told (NotReached line) = record { number = 10; text = 2; line = line }
+-- "W is not the worst slack", "L is not the wire"
+told OtherSlack = record { number = 11; text = 2; line = 1 }
+told OtherWire = record { number = 12; text = 2; line = 2 }
+-- 02, request 2: "13, text 1, the sink's line"
+told (FarPin line) = record { number = 13; text = 1; line = line }

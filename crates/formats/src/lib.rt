@@ -1,14 +1,14 @@
-// The two texts, and the operations on them. What callers use is public: the two operations, their answers and the lengths of the texts.
-pub mod answers;
+// The two texts: spelled, read and written, and why they are refused. What stands above reads, measures and writes them by `read_net`, `read_listing`, `listing_length` and `write_listing`.
 mod bytes;
-pub mod judge;
 pub mod limits;
+pub mod listing_length;
 mod number;
-pub mod plan;
 mod ranges;
-mod read_listing;
-mod read_net;
-mod reader;
+pub mod read_listing;
+pub mod read_net;
+mod read_number;
+pub mod reader;
+pub mod refusal;
 mod scan;
 mod write;
-mod write_listing;
+pub mod write_listing;

@@ -1,22 +1,17 @@
-// The ranges and lengths of 01 and the pin limit of 02's request 2, each once. The same numbers stand in specs/Limits of the crate tree and in specs/NetText and specs/ListingText.
-pub const POSITION_LIMIT: u64 = 100_000;
-
-pub const PIN_LIMIT: u64 = 40_000;
-
-pub const BRANCH_LIMIT: u64 = 1_000_000;
-
-pub const WIRE_FACTOR_LIMIT: u64 = 10_000;
-
-pub const NEED_LIMIT: u64 = 2_000_000_000_000;
-
-pub const SINK_LIMIT: u64 = 512;
-
-pub const REQUIRED_LIMIT: u64 = 1_000_000_000_000;
-
-pub const SLACK_LIMIT: u64 = 4_000_000_000_000;
-
-pub const WIRE_LIMIT: u64 = 1_000_000_000;
+// The lengths of 01's texts and the pin limit of 02's request 2, each once; the other limits stand in the tree's own. The same numbers stand in specs/Limits;
+// `limits_agree` fails where one of the two moves.
+ghost use mathlib.Core.Path.{_≡_};
+ghost use Rattle.formats.specs.Limits.{netLengthLimit, listingLengthLimit, pinLimit};
 
 pub const NET_LENGTH_LIMIT: usize = 20_480;
 
 pub const LISTING_LENGTH_LIMIT: usize = 24_576;
+
+pub const PIN_LIMIT: u64 = 40_000;
+
+// The constants are those of specs/Limits.
+pub fn limits_agree()
+    ensures net { λ r. do ⌜ (← ⟦NET_LENGTH_LIMIT⟧ .entry) ≡ netLengthLimit ⌝ }
+    ensures listing { λ r. do ⌜ (← ⟦LISTING_LENGTH_LIMIT⟧ .entry) ≡ listingLengthLimit ⌝ }
+    ensures pin { λ r. do ⌜ (← ⟦PIN_LIMIT⟧ .entry) ≡ pinLimit ⌝ }
+{}

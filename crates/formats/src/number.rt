@@ -2,10 +2,10 @@
 ghost use mathlib.Core.Path.{_≡_};
 ghost use Prim.Native.Nat.{_+_, _*_, _-_, _≤_, _<_};
 ghost use Rattle.formats.specs.Decimal.{isDigit, signed};
-ghost use Rattle.formats.specs.Scanning.{heldBy, magnitudeCap};
+ghost use Rattle.formats.specs.Inner.Scanning.{heldBy, magnitudeCap};
 
 // Every number of this magnitude or more is held as this one.
-const MAGNITUDE_CAP: u64 = 1_000_000_000_000_000_000;
+pub const MAGNITUDE_CAP: u64 = 1_000_000_000_000_000_000;
 
 pub struct Number {
     pub neg: bool,

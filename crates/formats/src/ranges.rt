@@ -1,40 +1,63 @@
 // The ranges of numbers, as they are read. A number past every range is held at the cap, which is past every range too.
 ghost use mathlib.Core.Path.{_≡_};
 ghost use Prim.Native.Nat.{_<_};
-ghost use lib.IntN.{ℤ};
-ghost use Rattle.formats.specs.Reading.{inside};
-ghost use Rattle.formats.specs.NetText.{around, upTo};
-ghost use Rattle.formats.specs.ListingText.{fromZero};
-ghost use Rattle.formats.specs.Scanning.{held, magnitudeCap};
+ghost use Rattle.formats.specs.Reading.{around, upTo, fromZero, inside};
+ghost use Rattle.formats.specs.Inner.Ranging.{Tested, Narrow};
+ghost use Rattle.formats.specs.Inner.Scanning.{magnitudeCap};
+use crate::number::MAGNITUDE_CAP;
 use crate::number::Number;
 
+// Both ends are in.
+pub struct Range {
+    pub from: i64,
+    pub to: i64,
+}
+
 // From -limit to limit.
-pub fn is_around(n: Number, limit: u64) -> bool
+pub fn around(limit: u64) -> Range
     requires { ⌜ limit < magnitudeCap ⌝ }
-    ensures { λ r. ⌜ ((z : ℤ) → n ≡ held z → r ≡ inside (around limit) z) ⌝ }
+    ensures { λ r. ⌜ r ≡ around limit ⌝ }
 {
-    n.mag <= limit
+    Range {
+        from: 0 - limit as i64,
+        to: limit as i64,
+    }
 }
 
 // From 1 to limit.
-pub fn is_up_to(n: Number, limit: u64) -> bool
+pub fn up_to(limit: u64) -> Range
     requires { ⌜ limit < magnitudeCap ⌝ }
-    ensures { λ r. ⌜ ((z : ℤ) → n ≡ held z → r ≡ inside (upTo limit) z) ⌝ }
+    ensures { λ r. ⌜ r ≡ upTo limit ⌝ }
 {
-    if n.neg {
-        return false;
+    Range {
+        from: 1,
+        to: limit as i64,
     }
-    let mag = n.mag;
-    1 <= mag && mag <= limit
 }
 
 // From 0 to limit.
-pub fn is_from_zero(n: Number, limit: u64) -> bool
+pub fn from_zero(limit: u64) -> Range
     requires { ⌜ limit < magnitudeCap ⌝ }
-    ensures { λ r. ⌜ ((z : ℤ) → n ≡ held z → r ≡ inside (fromZero limit) z) ⌝ }
+    ensures { λ r. ⌜ r ≡ fromZero limit ⌝ }
 {
-    if n.neg {
+    Range {
+        from: 0,
+        to: limit as i64,
+    }
+}
+
+pub fn is_inside(number: Number, range: Range) -> bool
+    requires { ⌜ Narrow range ⌝ }
+    ensures { λ r. ⌜ Tested r range number ⌝ }
+{
+    if MAGNITUDE_CAP <= number.mag {
         return false;
     }
-    n.mag <= limit
+    let z = number.value();
+    let from = range.from;
+    let to = range.to;
+    if z < from {
+        return false;
+    }
+    z <= to
 }

@@ -1,114 +1,118 @@
 // Reads a tree listing into arrays, or finds what is wrong with it first.
-ghost use mathlib.Core.Bool.{_&&_};
-ghost use mathlib.Core.List.{List};
+ghost use mathlib.Core.Bool.{cond, _&&_};
+ghost use mathlib.Core.List.{_∷_};
 ghost use mathlib.Core.Path.{_≡_};
-ghost use Prim.Native.Nat.{ℕ, suc, _+_, _*_, _-_, _^_, _≤_, _<_};
+ghost use Prim.Native.Nat.{ℕ, suc, _+_, _*_, _-_, _≤_, _<_};
 ghost use lib.IntN.{ℤ, pos};
 ghost use lib.ListN.{length, drop, getD};
 ghost use lib.Signed.{leZ};
-ghost use Rattle.quantities.specs.declared.point.Point.{Point};
-ghost use Rattle.tree.specs.Arrays.{pointAt, treeOf};
-ghost use Rattle.tree.specs.Tree.{Tree};
-ghost use Rattle.formats.specs.Reading.{Outcome, value};
-ghost use Rattle.formats.specs.ListingText.{Listing, isSink, readLeaves, readNodes, readListing};
-ghost use Rattle.formats.specs.Scanning.{held, magnitudeCap};
-ghost use Rattle.formats.specs.Readers.{listingOutcome};
-ghost use Rattle.formats.specs.ListingReader.{dueTop, topOutcome, TopWithin, dueLeaf, leafOutcome, LeafWithin, dueNode, nodeOutcome, NodeWithin, parentsFrom, pointsFrom, linesOutcome, LinesWithin, dueTree};
+ghost use Rattle.tree.specs.Limits.{sinkLimit};
+ghost use Rattle.formats.specs.NetText.{positionRanges};
+ghost use Rattle.formats.specs.ListingText.{parentRange, isSink, dueLeaf, dueNode, readStated, readTree, readListing};
+ghost use Rattle.formats.specs.Inner.Scanning.{held, magnitudeCap};
+ghost use Rattle.formats.specs.Inner.Ranging.{Ranged, others};
+ghost use Rattle.formats.specs.Inner.ListingReader.{HasVertices, StatedFrom, fromTotal, fromSame, AtVertex, VertexSays, LinesSay, parentsFrom, verticesFrom, leavesIn, nodesIn, treeOutcome, listingOutcome, SinksKept};
+ghost use Rattle.formats.specs.declared.refusal.Text.the-variants.{InListing};
+ghost use Rattle.formats.specs.declared.refusal.Refusal.the-variants.{NotDue, OutOfRange, SinkParent};
+ghost use Rattle.formats.specs.declared.read_listing.VertexLine.the-variants.{VertexRead, VertexRefused};
 use crate::limits::LISTING_LENGTH_LIMIT;
-use crate::limits::POSITION_LIMIT;
-use crate::limits::SINK_LIMIT;
-use crate::limits::SLACK_LIMIT;
-use crate::limits::WIRE_LIMIT;
 use crate::number::Number;
-use crate::ranges::is_around;
-use crate::ranges::is_from_zero;
-use crate::ranges::is_up_to;
+use crate::ranges::around;
+use crate::ranges::from_zero;
+use crate::ranges::is_inside;
+use crate::ranges::up_to;
+use crate::read_number::NumberLine;
+use crate::read_number::read_number;
 use crate::reader::Place;
 use crate::reader::Taken;
 use crate::reader::bytes_follow;
 use crate::reader::read_line;
+use crate::refusal::Refusal;
+use crate::refusal::Text;
+use crate::scan::Numbers;
 use quantities::length::Length;
 use quantities::time::Time;
+use tree::limits::POSITION_LIMIT;
+use tree::limits::SINK_LIMIT;
+use tree::limits::SLACK_LIMIT;
+use tree::limits::WIRE_LIMIT;
 
-// The stated slack and wire of a listing whose tree stands in the arrays; or the number and the line of a refusal.
+// The stated slack and wire of a listing whose tree stands in the arrays; or a refusal.
 pub enum ListingRead {
-    Stated { slack: Time, wire: Length },
-    ListingRefused { number: u8, line: usize },
+    ListingHeld { slack: Time, wire: Length },
+    ListingRefused { refusal: Refusal },
 }
 
 // The first three lines, and the place of the first vertex's; or a refusal.
-enum Top {
-    TopRead {
+enum StatedLines {
+    StatedRead {
         slack: Time,
         wire: Length,
         next: Place,
     },
-    TopRefused {
-        number: u8,
-        line: usize,
+    StatedRefused {
+        refusal: Refusal,
     },
 }
 
-// The line of a leaf, and the place of the next line; or the number of a refusal.
-enum LeafRead {
-    Leaf { parent: usize, next: Place },
-    LeafRefused { number: u8 },
-}
-
-// The same for a node.
-enum NodeRead {
-    Node {
+// The line of a vertex, and the place of the next line; or a refusal. A leaf's line has no position: 0,0.
+enum VertexLine {
+    VertexRead {
         parent: usize,
         x: i64,
         y: i64,
         next: Place,
     },
-    NodeRefused {
-        number: u8,
+    VertexRefused {
+        refusal: Refusal,
     },
 }
 
 // The place after the lines of some vertices, which the arrays hold; or a refusal.
-enum Lines {
-    LinesRead { next: Place },
-    LinesRefused { number: u8, line: usize },
+enum VertexLines {
+    VerticesRead { next: Place },
+    VerticesRefused { refusal: Refusal },
 }
 
 // The first three lines of a text.
-fn read_top(text: &[u8], n: usize) -> Top
-    ensures read { λ r. ⌜ ((next : ℤ → ℕ → List ℕ → Outcome Listing) → dueTop n (now (text .entry)) next ≡ topOutcome r (now (text .entry)) next) ⌝ }
-    ensures within { λ r. ⌜ TopWithin r (now (text .entry)) ⌝ }
+fn read_stated(text: &[u8], n: usize) -> StatedLines
+    ensures { λ r. ⌜ StatedFrom (readStated n (now (text .entry))) (now (text .entry)) r ⌝ }
 {
-    let Taken::AsDue { numbers, next } = read_line(text, 0, 1, b"slack=", 1) else {
-        return Top::TopRefused { number: 2, line: 1 };
-    };
-    let slack = numbers.first;
-    if !is_around(slack, SLACK_LIMIT) {
-        return Top::TopRefused { number: 3, line: 1 };
+    let start = Place { at: 0, line: 1 };
+    match read_number(text, Text::InListing, start, b"slack=", around(SLACK_LIMIT)) {
+        NumberLine::NumberRefused { refusal } => StatedLines::StatedRefused { refusal },
+        NumberLine::NumberRead { value, next } => read_total(text, next, n, Time::of(value)),
     }
-    let line = next.line;
-    let Taken::AsDue { numbers, next } = read_line(text, next.at, line, b"wire=", 1) else {
-        return Top::TopRefused { number: 2, line };
-    };
-    let wire = numbers.first;
-    if !is_from_zero(wire, WIRE_LIMIT) {
-        return Top::TopRefused { number: 3, line };
+}
+
+// Line 2 and the one after it.
+fn read_total(text: &[u8], here: Place, n: usize, slack: Time) -> StatedLines
+    requires { ⌜ (here .at ≤ length (now text)) × (here .line ≡ 2) ⌝ }
+    ensures { λ r. ⌜ StatedFrom (fromTotal n (slack .0) (drop (here .at) (now (text .entry)))) (now (text .entry)) r ⌝ }
+{
+    match read_number(text, Text::InListing, here, b"wire=", from_zero(WIRE_LIMIT)) {
+        NumberLine::NumberRefused { refusal } => StatedLines::StatedRefused { refusal },
+        NumberLine::NumberRead { value, next } => {
+            read_same(text, next, n, slack, Length::of(value as u64))
+        }
     }
-    let line = next.line;
-    let Taken::AsDue { numbers, next } = read_line(text, next.at, line, b"sinks=", 1) else {
-        return Top::TopRefused { number: 2, line };
-    };
-    let count = numbers.first;
-    if !is_up_to(count, SINK_LIMIT) {
-        return Top::TopRefused { number: 3, line };
-    }
-    if count.mag as usize != n {
-        return Top::TopRefused { number: 7, line };
-    }
-    Top::TopRead {
-        slack: Time::of(slack.value()),
-        wire: Length::of(wire.mag),
-        next,
+}
+
+// Line 3: the net's number of sinks.
+fn read_same(text: &[u8], here: Place, n: usize, slack: Time, wire: Length) -> StatedLines
+    requires { ⌜ (here .at ≤ length (now text)) × (here .line ≡ 3) ⌝ }
+    ensures { λ r. ⌜ StatedFrom (fromSame n (slack .0) (wire .0) (drop (here .at) (now (text .entry)))) (now (text .entry)) r ⌝ }
+{
+    match read_number(text, Text::InListing, here, b"sinks=", up_to(SINK_LIMIT)) {
+        NumberLine::NumberRefused { refusal } => StatedLines::StatedRefused { refusal },
+        NumberLine::NumberRead { value, next } => {
+            if value as usize != n {
+                return StatedLines::StatedRefused {
+                    refusal: Refusal::OtherCount,
+                };
+            }
+            StatedLines::StatedRead { slack, wire, next }
+        }
     }
 }
 
@@ -129,89 +133,120 @@ fn is_sink(n: usize, v: usize) -> bool
     1 <= v && v <= n
 }
 
-// The line of leaf k, `leaf=k,P`.
-fn leaf_at(text: &[u8], here: Place, n: usize, k: usize) -> LeafRead
-    requires { ⌜ (here .at ≤ length (now text)) × (here .line + 1 < 2 ^ 64) × (1 ≤ n) × (n ≤ 512) × (k ≤ 1024) ⌝ }
-    ensures read { λ r. ⌜ ((l : ℕ) (next : ℕ → List ℕ → Outcome Listing) → dueLeaf l n k (drop (here .at) (now (text .entry))) next ≡ leafOutcome r l (now (text .entry)) next) ⌝ }
-    ensures within { λ r. ⌜ LeafWithin r (here .line) (now (text .entry)) ⌝ }
+// The line of a vertex is not as due, or a number on it is out of range.
+fn not_due(line: usize) -> VertexLine
+    ensures { λ r. ⌜ r ≡ VertexRefused (NotDue InListing line) ⌝ }
 {
-    let Taken::AsDue { numbers, next } = read_line(text, here.at, here.line, b"leaf=", 2) else {
-        return LeafRead::LeafRefused { number: 2 };
+    VertexLine::VertexRefused {
+        refusal: Refusal::NotDue {
+            text: Text::InListing,
+            line,
+        },
+    }
+}
+
+fn out_of_range(line: usize) -> VertexLine
+    ensures { λ r. ⌜ r ≡ VertexRefused (OutOfRange InListing line) ⌝ }
+{
+    VertexLine::VertexRefused {
+        refusal: Refusal::OutOfRange {
+            text: Text::InListing,
+            line,
+        },
+    }
+}
+
+// A vertex whose line is read, but for a parent that is a sink.
+fn with_parent(n: usize, line: usize, parent: usize, x: i64, y: i64, next: Place) -> VertexLine
+    ensures { λ r. ⌜ r ≡ cond (isSink n parent) (VertexRefused (SinkParent line)) (VertexRead parent x y next) ⌝ }
+{
+    if is_sink(n, parent) {
+        return VertexLine::VertexRefused {
+            refusal: Refusal::SinkParent { line },
+        };
+    }
+    VertexLine::VertexRead { parent, x, y, next }
+}
+
+// The line of leaf k, `leaf=k,P`.
+fn leaf_at(text: &[u8], here: Place, n: usize, k: usize) -> VertexLine
+    requires { ⌜ AtVertex n k (now text) here ⌝ }
+    ensures { λ r. ⌜ VertexSays (dueLeaf n k (drop (here .at) (now (text .entry)))) (now (text .entry)) (here .line) r ⌝ }
+{
+    let line = here.line;
+    let Taken::AsDue { numbers, next } = read_line(text, here.at, line, b"leaf=", 2) else {
+        return not_due(line);
     };
     if !is_exactly(numbers.first, k) {
-        return LeafRead::LeafRefused { number: 2 };
+        return not_due(line);
     }
     let above = numbers.second;
-    if !is_from_zero(above, (2 * n - 1) as u64) {
-        return LeafRead::LeafRefused { number: 3 };
+    if !is_inside(above, from_zero((2 * n - 1) as u64)) {
+        return out_of_range(line);
     }
-    let parent = above.mag as usize;
-    if is_sink(n, parent) {
-        return LeafRead::LeafRefused { number: 8 };
+    with_parent(n, line, above.mag as usize, 0, 0, next)
+}
+
+// Whether the numbers of a node's line after the first are in range.
+fn node_in_range(numbers: Numbers, n: usize) -> bool
+    requires { ⌜ (1 ≤ n) × (n ≤ sinkLimit) ⌝ }
+    ensures { λ r. ⌜ Ranged r (parentRange n ∷ positionRanges) (others numbers) ⌝ }
+{
+    if !is_inside(numbers.second, from_zero((2 * n - 1) as u64)) {
+        return false;
     }
-    LeafRead::Leaf { parent, next }
+    if !is_inside(numbers.third, around(POSITION_LIMIT)) {
+        return false;
+    }
+    is_inside(numbers.fourth, around(POSITION_LIMIT))
 }
 
 // The line of node k, `node=k,P,X,Y`.
-fn node_at(text: &[u8], here: Place, n: usize, k: usize) -> NodeRead
-    requires { ⌜ (here .at ≤ length (now text)) × (here .line + 1 < 2 ^ 64) × (1 ≤ n) × (n ≤ 512) × (k ≤ 1024) ⌝ }
-    ensures read { λ r. ⌜ ((l : ℕ) (next : ℕ → Point → List ℕ → Outcome Listing) → dueNode l n k (drop (here .at) (now (text .entry))) next ≡ nodeOutcome r l (now (text .entry)) next) ⌝ }
-    ensures within { λ r. ⌜ NodeWithin r (here .line) (now (text .entry)) ⌝ }
+fn node_at(text: &[u8], here: Place, n: usize, k: usize) -> VertexLine
+    requires { ⌜ AtVertex n k (now text) here ⌝ }
+    ensures { λ r. ⌜ VertexSays (dueNode n k (drop (here .at) (now (text .entry)))) (now (text .entry)) (here .line) r ⌝ }
 {
-    let Taken::AsDue { numbers, next } = read_line(text, here.at, here.line, b"node=", 4) else {
-        return NodeRead::NodeRefused { number: 2 };
+    let line = here.line;
+    let Taken::AsDue { numbers, next } = read_line(text, here.at, line, b"node=", 4) else {
+        return not_due(line);
     };
     if !is_exactly(numbers.first, k) {
-        return NodeRead::NodeRefused { number: 2 };
+        return not_due(line);
+    }
+    if !node_in_range(numbers, n) {
+        return out_of_range(line);
     }
     let above = numbers.second;
-    if !is_from_zero(above, (2 * n - 1) as u64) {
-        return NodeRead::NodeRefused { number: 3 };
-    }
     let x = numbers.third;
-    if !is_around(x, POSITION_LIMIT) {
-        return NodeRead::NodeRefused { number: 3 };
-    }
     let y = numbers.fourth;
-    if !is_around(y, POSITION_LIMIT) {
-        return NodeRead::NodeRefused { number: 3 };
-    }
-    let parent = above.mag as usize;
-    if is_sink(n, parent) {
-        return NodeRead::NodeRefused { number: 8 };
-    }
-    NodeRead::Node {
-        parent,
-        x: x.value(),
-        y: y.value(),
-        next,
-    }
+    with_parent(n, line, above.mag as usize, x.value(), y.value(), next)
 }
 
 // The lines of the leaves, 1 to n.
-fn read_leaves(text: &[u8], from: Place, n: usize, parents: &mut [usize]) -> Lines
-    requires { ⌜ (from .at ≤ length (now text)) × (from .line ≡ 4) × (1 ≤ n) × (n ≤ 512) × (n < length (now parents)) ⌝ }
-    ensures read { λ r. ⌜ ((next : List ℕ → List ℕ → Outcome Listing) → readLeaves n n 1 (drop (from .at) (now (text .entry))) next ≡ linesOutcome r (now (text .entry)) (next (parentsFrom (now (parents .exit)) 1 n))) ⌝ }
-    ensures within { λ r. ⌜ LinesWithin r (n + 4) (now (text .entry)) ⌝ }
+fn read_leaves(text: &[u8], from: Place, n: usize, parents: &mut [usize]) -> VertexLines
+    requires { ⌜ (from .at ≤ length (now text)) × (from .line ≡ 4) × (1 ≤ n) × (n ≤ sinkLimit) × (n < length (now parents)) ⌝ }
+    ensures { λ r. ⌜ LinesSay (leavesIn n (drop (from .at) (now (text .entry)))) (parentsFrom (now (parents .exit)) 1 n) (now (text .entry)) (n + 4) r ⌝ }
 {
     let mut here = from;
     let mut k = 1;
     while k <= n {
         match leaf_at(text, here, n, k) {
-            LeafRead::Leaf { parent, next } => {
+            VertexLine::VertexRead {
+                parent,
+                x: _,
+                y: _,
+                next,
+            } => {
                 parents[k] = parent;
                 here = next;
                 k += 1;
             }
-            LeafRead::LeafRefused { number } => {
-                return Lines::LinesRefused {
-                    number,
-                    line: here.line,
-                };
+            VertexLine::VertexRefused { refusal } => {
+                return VertexLines::VerticesRefused { refusal };
             }
         }
     }
-    Lines::LinesRead { next: here }
+    VertexLines::VerticesRead { next: here }
 }
 
 // The lines of the nodes, n+1 to 2n-1.
@@ -222,33 +257,29 @@ fn read_nodes(
     parents: &mut [usize],
     xs: &mut [i64],
     ys: &mut [i64],
-) -> Lines
-    requires { ⌜ (from .at ≤ length (now text)) × (from .line ≡ n + 4) × (1 ≤ n) × (n ≤ 512) × (2 * n ≤ length (now parents)) × (2 * n ≤ length (now xs)) × (2 * n ≤ length (now ys)) ⌝ }
-    ensures read { λ r. ⌜ ((next : List ℕ → List Point → List ℕ → Outcome Listing) → readNodes n (n - 1) (suc n) (drop (from .at) (now (text .entry))) next ≡ linesOutcome r (now (text .entry)) (next (parentsFrom (now (parents .exit)) (suc n) (n - 1)) (pointsFrom (now (xs .exit)) (now (ys .exit)) (suc n) (n - 1)))) ⌝ }
-    ensures within { λ r. ⌜ LinesWithin r (2 * n + 3) (now (text .entry)) ⌝ }
+) -> VertexLines
+    requires { ⌜ (from .at ≤ length (now text)) × (from .line ≡ n + 4) × (1 ≤ n) × (n ≤ sinkLimit) × HasVertices n (now parents) (now xs) (now ys) ⌝ }
+    ensures read { λ r. ⌜ LinesSay (nodesIn n (drop (from .at) (now (text .entry)))) (verticesFrom (now (parents .exit)) (now (xs .exit)) (now (ys .exit)) (suc n) (n - 1)) (now (text .entry)) (2 * n + 3) r ⌝ }
     ensures leaves { λ r. ⌜ ((v : ℕ) → v ≤ n → getD (now (parents .exit)) v 0 ≡ getD (now (parents .entry)) v 0) ⌝ }
-    ensures kept { λ r. ⌜ ((v : ℕ) → v ≤ n → pointAt (now (xs .exit)) (now (ys .exit)) v ≡ pointAt (now (xs .entry)) (now (ys .entry)) v) ⌝ }
+    ensures kept { λ r. ⌜ SinksKept n (now (xs .entry)) (now (ys .entry)) (now (xs .exit)) (now (ys .exit)) ⌝ }
 {
     let mut here = from;
     let mut k = n + 1;
     while k < 2 * n {
         match node_at(text, here, n, k) {
-            NodeRead::Node { parent, x, y, next } => {
+            VertexLine::VertexRead { parent, x, y, next } => {
                 parents[k] = parent;
                 xs[k] = x;
                 ys[k] = y;
                 here = next;
                 k += 1;
             }
-            NodeRead::NodeRefused { number } => {
-                return Lines::LinesRefused {
-                    number,
-                    line: here.line,
-                };
+            VertexLine::VertexRefused { refusal } => {
+                return VertexLines::VerticesRefused { refusal };
             }
         }
     }
-    Lines::LinesRead { next: here }
+    VertexLines::VerticesRead { next: here }
 }
 
 // The lines of all vertices, after which nothing stands.
@@ -259,23 +290,25 @@ fn read_tree(
     parents: &mut [usize],
     xs: &mut [i64],
     ys: &mut [i64],
-) -> Lines
-    requires { ⌜ (from .at ≤ length (now text)) × (from .line ≡ 4) × (1 ≤ n) × (n ≤ 512) × (2 * n ≤ length (now parents)) × (2 * n ≤ length (now xs)) × (2 * n ≤ length (now ys)) ⌝ }
-    ensures read { λ r. ⌜ ((listing : Tree → Listing) → dueTree n (drop (from .at) (now (text .entry))) listing ≡ linesOutcome r (now (text .entry)) (λ rest. value (listing (treeOf n (now (parents .exit)) (now (xs .exit)) (now (ys .exit)))))) ⌝ }
-    ensures kept { λ r. ⌜ ((v : ℕ) → v ≤ n → pointAt (now (xs .exit)) (now (ys .exit)) v ≡ pointAt (now (xs .entry)) (now (ys .entry)) v) ⌝ }
+) -> VertexLines
+    requires { ⌜ (from .at ≤ length (now text)) × (from .line ≡ 4) × (1 ≤ n) × (n ≤ sinkLimit) × HasVertices n (now parents) (now xs) (now ys) ⌝ }
+    ensures read { λ r. ⌜ readTree n (drop (from .at) (now (text .entry))) ≡ treeOutcome n r (now (parents .exit)) (now (xs .exit)) (now (ys .exit)) ⌝ }
+    ensures kept { λ r. ⌜ SinksKept n (now (xs .entry)) (now (ys .entry)) (now (xs .exit)) (now (ys .exit)) ⌝ }
 {
     let leaves = read_leaves(text, from, n, parents);
-    let Lines::LinesRead { next } = leaves else {
+    let VertexLines::VerticesRead { next } = leaves else {
         return leaves;
     };
     let nodes = read_nodes(text, next, n, parents, xs, ys);
-    let Lines::LinesRead { next: end } = nodes else {
+    let VertexLines::VerticesRead { next: end } = nodes else {
         return nodes;
     };
     if bytes_follow(text, end.at, end.line) {
-        return Lines::LinesRefused {
-            number: 4,
-            line: end.line,
+        return VertexLines::VerticesRefused {
+            refusal: Refusal::BytesFollow {
+                text: Text::InListing,
+                line: end.line,
+            },
         };
     }
     nodes
@@ -289,18 +322,24 @@ pub fn read_listing(
     xs: &mut [i64],
     ys: &mut [i64],
 ) -> ListingRead
-    requires { ⌜ (1 ≤ n) × (n ≤ 512) × (2 * n ≤ length (now parents)) × (2 * n ≤ length (now xs)) × (2 * n ≤ length (now ys)) ⌝ }
+    requires { ⌜ (1 ≤ n) × (n ≤ sinkLimit) × HasVertices n (now parents) (now xs) (now ys) ⌝ }
     ensures read { λ r. ⌜ readListing n (now (text .entry)) ≡ listingOutcome r n (now (parents .exit)) (now (xs .exit)) (now (ys .exit)) ⌝ }
-    ensures kept { λ r. ⌜ ((v : ℕ) → v ≤ n → pointAt (now (xs .exit)) (now (ys .exit)) v ≡ pointAt (now (xs .entry)) (now (ys .entry)) v) ⌝ }
+    ensures kept { λ r. ⌜ SinksKept n (now (xs .entry)) (now (ys .entry)) (now (xs .exit)) (now (ys .exit)) ⌝ }
 {
     if LISTING_LENGTH_LIMIT < text.len() {
-        return ListingRead::ListingRefused { number: 1, line: 0 };
+        return ListingRead::ListingRefused {
+            refusal: Refusal::TooLong {
+                text: Text::InListing,
+            },
+        };
     }
-    match read_top(text, n) {
-        Top::TopRefused { number, line } => ListingRead::ListingRefused { number, line },
-        Top::TopRead { slack, wire, next } => match read_tree(text, next, n, parents, xs, ys) {
-            Lines::LinesRefused { number, line } => ListingRead::ListingRefused { number, line },
-            Lines::LinesRead { next: _ } => ListingRead::Stated { slack, wire },
-        },
+    match read_stated(text, n) {
+        StatedLines::StatedRefused { refusal } => ListingRead::ListingRefused { refusal },
+        StatedLines::StatedRead { slack, wire, next } => {
+            match read_tree(text, next, n, parents, xs, ys) {
+                VertexLines::VerticesRefused { refusal } => ListingRead::ListingRefused { refusal },
+                VertexLines::VerticesRead { next: _ } => ListingRead::ListingHeld { slack, wire },
+            }
+        }
     }
 }

@@ -3,29 +3,29 @@ ghost use mathlib.Core.Path.{_≡_};
 ghost use Prim.Native.Nat.{_+_, _^_, _≤_, _<_};
 ghost use lib.Dec.{ltb};
 ghost use lib.ListN.{length, drop};
-ghost use Rattle.quantities.specs.Linear.{up};
+ghost use Rattle.quantities.specs.Inner.Linear.{up};
 ghost use Rattle.quantities.specs.Distance.{distance};
-ghost use Rattle.quantities.specs.Reach.{PointWithin};
-ghost use Rattle.tree.specs.Arrays.{pointAt};
+ghost use Rattle.quantities.specs.Ranges.{PointWithin};
+ghost use Rattle.tree.specs.Inner.Arrays.{pointAt};
 ghost use Rattle.tree.specs.declared.header.Header.{Header};
 ghost use Rattle.tree.specs.Limits.{positionLimit, sinkLimit};
-ghost use Rattle.formats.specs.NetText.{pinLimit, sinkRanges, readNet};
-ghost use Rattle.formats.specs.Ranging.{Ranged, listed};
-ghost use Rattle.formats.specs.Readers.{afterHead, AtSinks, HeadWithin, HasPlace, Heads, fromBranch, fromWire, fromNeed, fromCount, fromSinks, SinkSays, netOutcome};
-use crate::limits::BRANCH_LIMIT;
-use crate::limits::NEED_LIMIT;
+ghost use Rattle.formats.specs.Limits.{pinLimit};
+ghost use Rattle.formats.specs.NetText.{positionRanges, sinkRanges, readHead};
+ghost use Rattle.formats.specs.Inner.Ranging.{Ranged, listed};
+ghost use Rattle.formats.specs.Inner.Readers.{AtSinks, HasPlace, HeadSays, NetHeadSays, fromBranch, fromWire, fromNeed, fromCount, afterHead, SinkSays, netOutcome};
 use crate::limits::NET_LENGTH_LIMIT;
 use crate::limits::PIN_LIMIT;
-use crate::limits::POSITION_LIMIT;
-use crate::limits::REQUIRED_LIMIT;
-use crate::limits::SINK_LIMIT;
-use crate::limits::WIRE_FACTOR_LIMIT;
-use crate::ranges::is_around;
-use crate::ranges::is_up_to;
+use crate::ranges::around;
+use crate::ranges::is_inside;
+use crate::ranges::up_to;
+use crate::read_number::NumberLine;
+use crate::read_number::read_number;
 use crate::reader::Place;
 use crate::reader::Taken;
 use crate::reader::bytes_follow;
 use crate::reader::read_line;
+use crate::refusal::Refusal;
+use crate::refusal::Text;
 use crate::scan::Numbers;
 use quantities::length::Length;
 use quantities::point::Point;
@@ -33,9 +33,15 @@ use quantities::point::distance;
 use quantities::time::Time;
 use quantities::wire_factor::WireFactor;
 use tree::header::Header;
+use tree::limits::BRANCH_LIMIT;
+use tree::limits::NEED_LIMIT;
+use tree::limits::POSITION_LIMIT;
+use tree::limits::REQUIRED_LIMIT;
+use tree::limits::SINK_LIMIT;
+use tree::limits::WIRE_FACTOR_LIMIT;
 
-// The first five lines, and where the sinks' lines start; or the number and the line of a refusal.
-pub enum Head {
+// The first five lines, and where the sinks' lines start; or a refusal.
+pub enum HeadLines {
     HeadRead {
         header: Header,
         root: Point,
@@ -43,42 +49,56 @@ pub enum Head {
         next: Place,
     },
     HeadRefused {
-        number: u8,
-        line: usize,
+        refusal: Refusal,
     },
 }
 
-// The place of the line after a sink's; or the number of a refusal.
+// The place of the line after a sink's; or a refusal.
 enum SinkLine {
     SinkRead { next: Place },
-    SinkRefused { number: u8 },
+    SinkRefused { refusal: Refusal },
 }
 
 // Whether the sinks of a net stand in the arrays; or a refusal.
 pub enum NetRead {
     NetHeld,
-    NetRefused { number: u8, line: usize },
+    NetRefused { refusal: Refusal },
 }
 
-// The first five lines of a text.
-pub fn read_head(text: &[u8]) -> Head
-    ensures { λ r. ⌜ readNet (now (text .entry)) ≡ afterHead r (now (text .entry)) ⌝ }
-    ensures within { λ r. ⌜ HeadWithin r (now (text .entry)) ⌝ }
+// The head of a text: its length, then its first five lines.
+pub fn read_head(text: &[u8]) -> HeadLines
+    ensures { λ r. ⌜ NetHeadSays (now (text .entry)) r ⌝ }
 {
     if NET_LENGTH_LIMIT < text.len() {
-        return Head::HeadRefused { number: 1, line: 0 };
+        return HeadLines::HeadRefused {
+            refusal: Refusal::TooLong { text: Text::InNet },
+        };
     }
+    read_root(text)
+}
+
+// Line 1 and those after it.
+fn read_root(text: &[u8]) -> HeadLines
+    ensures { λ r. ⌜ HeadSays (readHead (now (text .entry))) (now (text .entry)) r ⌝ }
+{
     let Taken::AsDue { numbers, next } = read_line(text, 0, 1, b"root=", 2) else {
-        return Head::HeadRefused { number: 2, line: 1 };
+        return HeadLines::HeadRefused {
+            refusal: Refusal::NotDue {
+                text: Text::InNet,
+                line: 1,
+            },
+        };
     };
+    if !is_position(numbers) {
+        return HeadLines::HeadRefused {
+            refusal: Refusal::OutOfRange {
+                text: Text::InNet,
+                line: 1,
+            },
+        };
+    }
     let x = numbers.first;
     let y = numbers.second;
-    if !is_around(x, POSITION_LIMIT) {
-        return Head::HeadRefused { number: 3, line: 1 };
-    }
-    if !is_around(y, POSITION_LIMIT) {
-        return Head::HeadRefused { number: 3, line: 1 };
-    }
     let root = Point {
         x: x.value(),
         y: y.value(),
@@ -87,76 +107,67 @@ pub fn read_head(text: &[u8]) -> Head
 }
 
 // Line 2 and those after it.
-fn read_branch(text: &[u8], here: Place, root: Point) -> Head
+fn read_branch(text: &[u8], here: Place, root: Point) -> HeadLines
     requires { ⌜ (here .at ≤ length (now text)) × (here .line ≡ 2) × PointWithin positionLimit root ⌝ }
-    ensures { λ r. ⌜ Heads (fromBranch root (drop (here .at) (now (text .entry)))) (now (text .entry)) r ⌝ }
+    ensures { λ r. ⌜ HeadSays (fromBranch root (drop (here .at) (now (text .entry)))) (now (text .entry)) r ⌝ }
 {
-    let line = here.line;
-    let Taken::AsDue { numbers, next } = read_line(text, here.at, line, b"branch=", 1) else {
-        return Head::HeadRefused { number: 2, line };
-    };
-    let number = numbers.first;
-    if !is_up_to(number, BRANCH_LIMIT) {
-        return Head::HeadRefused { number: 3, line };
+    match read_number(text, Text::InNet, here, b"branch=", up_to(BRANCH_LIMIT)) {
+        NumberLine::NumberRefused { refusal } => HeadLines::HeadRefused { refusal },
+        NumberLine::NumberRead { value, next } => read_wire(text, next, root, Time::of(value)),
     }
-    let branch = Time::of(number.value());
-    read_wire(text, next, root, branch)
 }
 
 // Line 3 and those after it.
-fn read_wire(text: &[u8], here: Place, root: Point, branch: Time) -> Head
+fn read_wire(text: &[u8], here: Place, root: Point, branch: Time) -> HeadLines
     requires { ⌜ (here .at ≤ length (now text)) × (here .line ≡ 3) × PointWithin positionLimit root ⌝ }
-    ensures { λ r. ⌜ Heads (fromWire root (up (branch .0)) (drop (here .at) (now (text .entry)))) (now (text .entry)) r ⌝ }
+    ensures { λ r. ⌜ HeadSays (fromWire root (up (branch .0)) (drop (here .at) (now (text .entry)))) (now (text .entry)) r ⌝ }
 {
-    let line = here.line;
-    let Taken::AsDue { numbers, next } = read_line(text, here.at, line, b"wire=", 1) else {
-        return Head::HeadRefused { number: 2, line };
-    };
-    let number = numbers.first;
-    if !is_up_to(number, WIRE_FACTOR_LIMIT) {
-        return Head::HeadRefused { number: 3, line };
+    match read_number(text, Text::InNet, here, b"wire=", up_to(WIRE_FACTOR_LIMIT)) {
+        NumberLine::NumberRefused { refusal } => HeadLines::HeadRefused { refusal },
+        NumberLine::NumberRead { value, next } => {
+            read_need(text, next, root, branch, WireFactor::of(value as u64))
+        }
     }
-    let wire = WireFactor::of(number.mag);
-    read_need(text, next, root, branch, wire)
 }
 
 // Line 4 and those after it.
-fn read_need(text: &[u8], here: Place, root: Point, branch: Time, wire: WireFactor) -> Head
+fn read_need(text: &[u8], here: Place, root: Point, branch: Time, wire: WireFactor) -> HeadLines
     requires { ⌜ (here .at ≤ length (now text)) × (here .line ≡ 4) × PointWithin positionLimit root ⌝ }
-    ensures { λ r. ⌜ Heads (fromNeed root (up (branch .0)) (wire .0) (drop (here .at) (now (text .entry)))) (now (text .entry)) r ⌝ }
+    ensures { λ r. ⌜ HeadSays (fromNeed root (up (branch .0)) wire (drop (here .at) (now (text .entry)))) (now (text .entry)) r ⌝ }
 {
-    let line = here.line;
-    let Taken::AsDue { numbers, next } = read_line(text, here.at, line, b"need=", 1) else {
-        return Head::HeadRefused { number: 2, line };
-    };
-    let number = numbers.first;
-    if !is_around(number, NEED_LIMIT) {
-        return Head::HeadRefused { number: 3, line };
+    match read_number(text, Text::InNet, here, b"need=", around(NEED_LIMIT)) {
+        NumberLine::NumberRefused { refusal } => HeadLines::HeadRefused { refusal },
+        NumberLine::NumberRead { value, next } => {
+            let need = Time::of(value);
+            read_count(text, next, root, Header { branch, wire, need })
+        }
     }
-    let need = Time::of(number.value());
-    read_count(text, next, root, Header { branch, wire, need })
 }
 
 // Line 5.
-fn read_count(text: &[u8], here: Place, root: Point, header: Header) -> Head
+fn read_count(text: &[u8], here: Place, root: Point, header: Header) -> HeadLines
     requires { ⌜ (here .at ≤ length (now text)) × (here .line ≡ 5) × PointWithin positionLimit root ⌝ }
-    ensures { λ r. ⌜ Heads (fromCount root (up (header .branch .0)) (header .wire .0) (header .need .0) (drop (here .at) (now (text .entry)))) (now (text .entry)) r ⌝ }
+    ensures { λ r. ⌜ HeadSays (fromCount root (up (header .branch .0)) (header .wire) (header .need .0) (drop (here .at) (now (text .entry)))) (now (text .entry)) r ⌝ }
 {
-    let line = here.line;
-    let Taken::AsDue { numbers, next } = read_line(text, here.at, line, b"sinks=", 1) else {
-        return Head::HeadRefused { number: 2, line };
-    };
-    let number = numbers.first;
-    if !is_up_to(number, SINK_LIMIT) {
-        return Head::HeadRefused { number: 3, line };
+    match read_number(text, Text::InNet, here, b"sinks=", up_to(SINK_LIMIT)) {
+        NumberLine::NumberRefused { refusal } => HeadLines::HeadRefused { refusal },
+        NumberLine::NumberRead { value, next } => HeadLines::HeadRead {
+            header,
+            root,
+            n: value as usize,
+            next,
+        },
     }
-    let n = number.mag as usize;
-    Head::HeadRead {
-        header,
-        root,
-        n,
-        next,
+}
+
+// Whether the first two numbers of a line are a position in range.
+fn is_position(numbers: Numbers) -> bool
+    ensures { λ r. ⌜ Ranged r positionRanges (listed numbers) ⌝ }
+{
+    if !is_inside(numbers.first, around(POSITION_LIMIT)) {
+        return false;
     }
+    is_inside(numbers.second, around(POSITION_LIMIT))
 }
 
 // Whether a pin stands farther from the root than the pin limit.
@@ -171,16 +182,13 @@ fn is_far(root: Point, pin: Point) -> bool
 fn sink_in_range(numbers: Numbers) -> bool
     ensures { λ r. ⌜ Ranged r sinkRanges (listed numbers) ⌝ }
 {
-    let x = numbers.first;
-    let y = numbers.second;
-    let arrival = numbers.third;
-    if !is_around(x, POSITION_LIMIT) {
+    if !is_inside(numbers.first, around(POSITION_LIMIT)) {
         return false;
     }
-    if !is_around(y, POSITION_LIMIT) {
+    if !is_inside(numbers.second, around(POSITION_LIMIT)) {
         return false;
     }
-    is_around(arrival, REQUIRED_LIMIT)
+    is_inside(numbers.third, around(REQUIRED_LIMIT))
 }
 
 // The line of sink s, into the place s of the arrays.
@@ -196,11 +204,22 @@ fn read_sink(
     requires { ⌜ (here .at ≤ length (now text)) × (here .line + 1 < 2 ^ 64) × PointWithin positionLimit root × HasPlace s (now xs) (now ys) (now required) ⌝ }
     ensures { λ r. ⌜ SinkSays root (now (text .entry)) here s (now (xs .entry)) (now (ys .entry)) (now (required .entry)) r (now (xs .exit)) (now (ys .exit)) (now (required .exit)) ⌝ }
 {
-    let Taken::AsDue { numbers, next } = read_line(text, here.at, here.line, b"sink=", 3) else {
-        return SinkLine::SinkRefused { number: 2 };
+    let line = here.line;
+    let Taken::AsDue { numbers, next } = read_line(text, here.at, line, b"sink=", 3) else {
+        return SinkLine::SinkRefused {
+            refusal: Refusal::NotDue {
+                text: Text::InNet,
+                line,
+            },
+        };
     };
     if !sink_in_range(numbers) {
-        return SinkLine::SinkRefused { number: 3 };
+        return SinkLine::SinkRefused {
+            refusal: Refusal::OutOfRange {
+                text: Text::InNet,
+                line,
+            },
+        };
     }
     let x = numbers.first;
     let y = numbers.second;
@@ -210,7 +229,9 @@ fn read_sink(
         y: y.value(),
     };
     if is_far(root, pin) {
-        return SinkLine::SinkRefused { number: 13 };
+        return SinkLine::SinkRefused {
+            refusal: Refusal::FarPin { line },
+        };
     }
     let x = pin.x;
     let y = pin.y;
@@ -230,8 +251,8 @@ fn read_sinks(
     ys: &mut [i64],
     required: &mut [i64],
 ) -> NetRead
-    requires { ⌜ AtSinks sinkLimit (now text) root n from × HasPlace n (now xs) (now ys) (now required) × (root ≡ pointAt (now xs) (now ys) 0) ⌝ }
-    ensures { λ r. ⌜ ((h : Header) → fromSinks h root n (drop (from .at) (now (text .entry))) ≡ netOutcome h n r (now (xs .exit)) (now (ys .exit)) (now (required .exit))) ⌝ }
+    requires { ⌜ AtSinks sinkLimit (now text) root n from × HasPlace n (now xs) (now ys) (now required) × (pointAt (now xs) (now ys) 0 ≡ root) ⌝ }
+    ensures { λ r. ⌜ ((h : Header) → afterHead h root n (drop (from .at) (now (text .entry))) ≡ netOutcome h n r (now (xs .exit)) (now (ys .exit)) (now (required .exit))) ⌝ }
 {
     let mut here = from;
     let mut done = 0;
@@ -240,19 +261,18 @@ fn read_sinks(
             SinkLine::SinkRead { next } => {
                 here = next;
             }
-            SinkLine::SinkRefused { number } => {
-                return NetRead::NetRefused {
-                    number,
-                    line: here.line,
-                };
+            SinkLine::SinkRefused { refusal } => {
+                return NetRead::NetRefused { refusal };
             }
         }
         done += 1;
     }
     if bytes_follow(text, here.at, here.line) {
         return NetRead::NetRefused {
-            number: 4,
-            line: here.line,
+            refusal: Refusal::BytesFollow {
+                text: Text::InNet,
+                line: here.line,
+            },
         };
     }
     NetRead::NetHeld
@@ -269,7 +289,7 @@ pub fn read_rest(
     required: &mut [i64],
 ) -> NetRead
     requires { ⌜ AtSinks sinkLimit (now text) root n next × HasPlace n (now xs) (now ys) (now required) ⌝ }
-    ensures { λ r. ⌜ ((h : Header) → fromSinks h root n (drop (next .at) (now (text .entry))) ≡ netOutcome h n r (now (xs .exit)) (now (ys .exit)) (now (required .exit))) ⌝ }
+    ensures { λ r. ⌜ ((h : Header) → afterHead h root n (drop (next .at) (now (text .entry))) ≡ netOutcome h n r (now (xs .exit)) (now (ys .exit)) (now (required .exit))) ⌝ }
 {
     let x = root.x;
     let y = root.y;

@@ -6,7 +6,7 @@ ghost use lib.ListN.{length};
 ghost use lib.IntN.{natAbs};
 ghost use Rattle.formats.specs.Decimal.{showNat, show};
 ghost use Rattle.formats.specs.Line.{lineText};
-ghost use Rattle.formats.specs.Writing.{Puts, Writable, oneThen, twoThen};
+ghost use Rattle.formats.specs.Inner.Writing.{Puts, Writable, oneThen, twoThen};
 use crate::bytes::COMMA;
 use crate::bytes::END;
 use crate::bytes::MINUS;
@@ -43,7 +43,7 @@ fn put_natural(out: &mut [u8], at: usize, n: u64) -> usize
     put_byte(out, next, 48 + (n % 10) as u8)
 }
 
-fn magnitude(z: i64) -> u64
+pub fn magnitude(z: i64) -> u64
     requires { ⌜ Writable z ⌝ }
     ensures { λ r. ⌜ r ≡ natAbs z ⌝ }
 {

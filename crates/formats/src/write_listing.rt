@@ -1,12 +1,13 @@
 // Writes a tree listing.
 ghost use Prim.Native.Nat.{ℕ, _+_, _*_, _≤_, _<_};
 ghost use lib.ListN.{length};
-ghost use Rattle.quantities.specs.Reach.{Within, PointWithin};
-ghost use Rattle.tree.specs.Arrays.{pointAt, parentsOf, treeOf, Parents};
+ghost use Rattle.quantities.specs.Ranges.{Within, PointWithin};
+ghost use Rattle.tree.specs.Inner.Arrays.{pointAt, parentsOf, treeOf, Parents};
 ghost use Rattle.tree.specs.Limits.{positionLimit, sinkLimit, slackLimit, wireLimit};
 ghost use Rattle.tree.specs.Net.{sinkNumbers, branchNumbers};
 ghost use Rattle.formats.specs.ListingText.{leafText, nodeText, linesText, listingText, ListingInRange};
-ghost use Rattle.formats.specs.Writing.{Puts, headText};
+ghost use Rattle.formats.specs.Inner.ListingReader.{HasVertices, listingHeld};
+ghost use Rattle.formats.specs.Inner.Writing.{Puts, headText};
 use crate::write::put_line1;
 use crate::write::put_line2;
 use crate::write::put_line4;
@@ -57,7 +58,7 @@ fn put_node(
     ys: &[i64],
     k: usize,
 ) -> usize
-    requires { ⌜ Parents n (now parents) × (2 * n ≤ length (now xs)) × (2 * n ≤ length (now ys)) ⌝ }
+    requires { ⌜ Parents n (now parents) × HasVertices n (now parents) (now xs) (now ys) ⌝ }
     requires { ⌜ (n < k) × (k < 2 * n) × PointWithin positionLimit (pointAt (now xs) (now ys) k) ⌝ }
     requires { ⌜ at + length (nodeText n (treeOf n (now parents) (now xs) (now ys)) k) ≤ length (now out) ⌝ }
     ensures { λ r. ⌜ Puts (now (out .entry)) at (nodeText n (treeOf n (now (parents .entry)) (now (xs .entry)) (now (ys .entry))) k) r (now (out .exit)) ⌝ }
@@ -73,7 +74,7 @@ fn put_nodes(
     xs: &[i64],
     ys: &[i64],
 ) -> usize
-    requires { ⌜ Parents n (now parents) × (2 * n ≤ length (now xs)) × (2 * n ≤ length (now ys)) ⌝ }
+    requires { ⌜ Parents n (now parents) × HasVertices n (now parents) (now xs) (now ys) ⌝ }
     requires { ⌜ ((v : ℕ) → n < v → v < 2 * n → PointWithin positionLimit (pointAt (now xs) (now ys) v)) ⌝ }
     requires { ⌜ at + length (linesText (nodeText n (treeOf n (now parents) (now xs) (now ys))) (branchNumbers n)) ≤ length (now out) ⌝ }
     ensures { λ r. ⌜ Puts (now (out .entry)) at (linesText (nodeText n (treeOf n (now (parents .entry)) (now (xs .entry)) (now (ys .entry)))) (branchNumbers n)) r (now (out .exit)) ⌝ }
@@ -97,10 +98,10 @@ pub fn write_listing(
     xs: &[i64],
     ys: &[i64],
 ) -> usize
-    requires { ⌜ ListingInRange n (record { slack = slack .0; wire = wire .0; tree = treeOf n (now parents) (now xs) (now ys) }) ⌝ }
-    requires { ⌜ (2 * n ≤ length (now parents)) × (2 * n ≤ length (now xs)) × (2 * n ≤ length (now ys)) ⌝ }
-    requires { ⌜ length (listingText n (record { slack = slack .0; wire = wire .0; tree = treeOf n (now parents) (now xs) (now ys) })) ≤ length (now out) ⌝ }
-    ensures { λ r. ⌜ Puts (now (out .entry)) 0 (listingText n (record { slack = slack .0; wire = wire .0; tree = treeOf n (now (parents .entry)) (now (xs .entry)) (now (ys .entry)) })) r (now (out .exit)) ⌝ }
+    requires { ⌜ ListingInRange n (listingHeld slack wire n (now parents) (now xs) (now ys)) ⌝ }
+    requires { ⌜ HasVertices n (now parents) (now xs) (now ys) ⌝ }
+    requires { ⌜ length (listingText n (listingHeld slack wire n (now parents) (now xs) (now ys))) ≤ length (now out) ⌝ }
+    ensures { λ r. ⌜ Puts (now (out .entry)) 0 (listingText n (listingHeld slack wire n (now (parents .entry)) (now (xs .entry)) (now (ys .entry)))) r (now (out .exit)) ⌝ }
 {
     let first = put_head(out, slack, wire, n);
     let second = put_leaves(out, first, n, parents);

@@ -1,9 +1,13 @@
 // Reads a net in net.txt and a listing in tree.txt, and prints the measures of its tree, or the refusal.
 ghost use mathlib.Core.Path.{_≡_};
 ghost use lib.IntN.{natAbs};
-use formats::answers::JudgeAnswer;
-use formats::judge::judge;
+use formats::limits::LISTING_LENGTH_LIMIT;
+use formats::limits::NET_LENGTH_LIMIT;
+use formats::refusal::Refusal;
+use formats::refusal::tell;
 use libc::STDOUT_FILENO;
+use operations::answers::JudgeAnswer;
+use operations::judge::judge;
 
 // Whether the text that was read from `fd` ends where reading stopped. A read that failed or was cut short is told on standard error.
 fn has_ended(fd: i32, name: &[u8]) -> bool {
@@ -45,51 +49,52 @@ fn print_measures(slack: i64, wire: u64, best: i64) -> bool {
 }
 
 // The line `refused=N,T,L`.
-fn print_refusal(number: u8, text: u8, line: usize) -> bool {
+fn print_refusal(refusal: Refusal) -> bool {
+    let told = tell(refusal);
     io::write_all(STDOUT_FILENO, b"refused=");
-    io::print_decimal(STDOUT_FILENO, number as u64);
+    io::print_decimal(STDOUT_FILENO, told.number as u64);
     io::write_all(STDOUT_FILENO, b",");
-    io::print_decimal(STDOUT_FILENO, text as u64);
+    io::print_decimal(STDOUT_FILENO, told.text as u64);
     io::write_all(STDOUT_FILENO, b",");
-    io::print_decimal(STDOUT_FILENO, line as u64);
+    io::print_decimal(STDOUT_FILENO, told.line as u64);
     io::write_all(STDOUT_FILENO, b"\n")
 }
 
 // The measures of a listing over a net, or the refusal; whether its end went out.
 fn print_judgement(net: &[u8], listing: &[u8]) -> bool {
     match judge(net, listing) {
-        JudgeAnswer::Accepted { slack, wire, best } => print_measures(
+        JudgeAnswer::Judged { slack, wire, best } => print_measures(
             slack.value(),
             wire.value(),
             best.value(),
         ),
-        JudgeAnswer::JudgeRefused { number, text, line } => print_refusal(number, text, line),
+        JudgeAnswer::JudgeRefused { refusal } => print_refusal(refusal),
     }
 }
 
 fn main() {
     // one byte more than each text may have, so that a longer one is refused
-    let mut net = [0u8; 20481];
+    let mut net = [0u8; NET_LENGTH_LIMIT + 1];
     let from_net = os::open_read(b"net.txt");
     if from_net < 0 {
         os::fail(b"net.txt");
         return;
     }
     let n = io::read_full(from_net, &mut net);
-    if n < 20481 {
+    if n <= NET_LENGTH_LIMIT {
         if !has_ended(from_net, b"net.txt") {
             return;
         }
     }
     libc::close(from_net);
-    let mut listing = [0u8; 24577];
+    let mut listing = [0u8; LISTING_LENGTH_LIMIT + 1];
     let from_tree = os::open_read(b"tree.txt");
     if from_tree < 0 {
         os::fail(b"tree.txt");
         return;
     }
     let m = io::read_full(from_tree, &mut listing);
-    if m < 24577 {
+    if m <= LISTING_LENGTH_LIMIT {
         if !has_ended(from_tree, b"tree.txt") {
             return;
         }

@@ -1,9 +1,13 @@
 // The marked nets and lines that are checked by running plan: number, text and line of what it returns for each, and its bytes; of request 1's nets the listing, of one of request 2's what judge returns.
-use formats::answers::JudgeAnswer;
-use formats::answers::PlanAnswer;
-use formats::judge::judge;
-use formats::plan::plan;
+use formats::limits::LISTING_LENGTH_LIMIT;
+use formats::limits::NET_LENGTH_LIMIT;
+use formats::refusal::Refusal;
+use formats::refusal::tell;
 use libc::STDOUT_FILENO;
+use operations::answers::JudgeAnswer;
+use operations::answers::PlanAnswer;
+use operations::judge::judge;
+use operations::plan::plan;
 
 fn show_figures(number: u8, text: u8, line: usize, bytes: usize) {
     io::print_decimal(STDOUT_FILENO, number as u64);
@@ -16,18 +20,23 @@ fn show_figures(number: u8, text: u8, line: usize, bytes: usize) {
     io::write_all(STDOUT_FILENO, b"\n");
 }
 
+fn show_refusal(refusal: Refusal) {
+    let told = tell(refusal);
+    show_figures(told.number, told.text, told.line, 0);
+}
+
 fn show_plan(net: &[u8]) {
-    let mut out = [0u8; 24576];
+    let mut out = [0u8; LISTING_LENGTH_LIMIT];
     match plan(net, &mut out) {
         PlanAnswer::Planned { slack, wire, bytes } => show_figures(0, 0, 0, bytes),
-        PlanAnswer::PlanRefused { number, text, line } => show_figures(number, text, line, 0),
+        PlanAnswer::PlanRefused { refusal } => show_refusal(refusal),
     }
 }
 
 fn show_judgement(net: &[u8], listing: &[u8]) {
     match judge(net, listing) {
-        JudgeAnswer::Accepted { slack, wire, best } => show_figures(0, 0, 0, 0),
-        JudgeAnswer::JudgeRefused { number, text, line } => show_figures(number, text, line, 0),
+        JudgeAnswer::Judged { slack, wire, best } => show_figures(0, 0, 0, 0),
+        JudgeAnswer::JudgeRefused { refusal } => show_refusal(refusal),
     }
 }
 
@@ -39,12 +48,12 @@ fn print_listing(out: &[u8], bytes: usize) -> bool {
 }
 
 fn show_listing(net: &[u8]) {
-    let mut out = [0u8; 24576];
+    let mut out = [0u8; LISTING_LENGTH_LIMIT];
     match plan(net, &mut out) {
         PlanAnswer::Planned { slack, wire, bytes } => {
             print_listing(&out, bytes);
         }
-        PlanAnswer::PlanRefused { number, text, line } => show_figures(number, text, line, 0),
+        PlanAnswer::PlanRefused { refusal } => show_refusal(refusal),
     }
 }
 
@@ -55,7 +64,7 @@ fn show_512_sinks() {
         os::fail(b"sinks512.txt");
         return;
     }
-    let mut net = [0u8; 20481];
+    let mut net = [0u8; NET_LENGTH_LIMIT + 1];
     let n = io::read_full(fd, &mut net);
     libc::close(fd);
     show_plan(&net[..n]);

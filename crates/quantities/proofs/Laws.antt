@@ -1,5 +1,6 @@
-pub mod Order
+pub mod MinMax
 pub mod Floor
 pub mod Distance
 pub mod Median
+pub mod Delay
 pub mod Marked

@@ -1,9 +1,9 @@
--- What the contracts of this crate say, bottom first.
-pub mod Order
+-- What a reviewer believes of positions, lengths and times, bottom first. Definitions alone.
+pub mod MinMax
 pub mod Floor
 pub mod Distance
+pub mod Delay
 pub mod Median
-pub mod Box
-pub mod Reach
--- For proofs: linear arithmetic over whole numbers. Nothing of it need be believed.
-pub mod Linear
+pub mod Ranges
+-- What serves the contracts of inner functions, and proofs. Nothing of it need be believed.
+pub mod Inner

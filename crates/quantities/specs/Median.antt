@@ -1,7 +1,7 @@
 -- The coordinate-wise median of three positions. Definitions alone.
 use lib.IntN.{ℤ}
 use Rattle.quantities.specs.declared.point.Point.{Point}
-use Rattle.quantities.specs.Order.{minℤ, maxℤ}
+use Rattle.quantities.specs.MinMax.{minℤ, maxℤ}
 
 -- the middle one of three whole numbers
 unfoldable pub median : ℤ → ℤ → ℤ → ℤ

@@ -2,7 +2,7 @@
 ghost use mathlib.Core.Path.{_≡_};
 ghost use Prim.Native.Nat.{_+_, _≤_};
 ghost use lib.Dec.{ltb};
-ghost use Rattle.quantities.specs.Reach.{lengthReach};
+ghost use Rattle.quantities.specs.Inner.Reach.{lengthReach};
 
 pub struct Length(u64);
 

@@ -1,6 +1,7 @@
 // Positions, their distance, and the median of three.
 ghost use mathlib.Core.Path.{_≡_};
-ghost use Rattle.quantities.specs.Reach.{Within, coordinateReach, PointWithin};
+ghost use Rattle.quantities.specs.Ranges.{Within, PointWithin};
+ghost use Rattle.quantities.specs.Inner.Reach.{coordinateReach};
 ghost use Rattle.quantities.specs.Distance.{span, distance};
 ghost use Rattle.quantities.specs.Median.{median, medianPoint};
 use crate::length::Length;

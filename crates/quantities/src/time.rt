@@ -3,8 +3,9 @@ ghost use mathlib.Core.Path.{_≡_};
 ghost use Prim.Native.Nat.{_≤_};
 ghost use lib.IntN.{pos, _+ℤ_, _-ℤ_, _*ℤ_};
 ghost use lib.Signed.{ltZ};
-ghost use Rattle.quantities.specs.Reach.{Within, timeReach, factorReach, termReach};
-ghost use Rattle.quantities.specs.Order.{minℤ};
+ghost use Rattle.quantities.specs.Ranges.{Within};
+ghost use Rattle.quantities.specs.Inner.Reach.{timeReach, factorReach, termReach};
+ghost use Rattle.quantities.specs.MinMax.{minℤ};
 
 pub struct Time(i64);
 

@@ -1,11 +1,12 @@
 // The library for callers in C and Rust: plan and judge on lent bytes, each figure through a reference of its own.
 ghost use mathlib.Core.Path.{_≡_};
 ghost use lib.ListN.{length};
-ghost use Rattle.formats.specs.Answers.{planOf, planOutput, judgeOf};
-use formats::answers::JudgeAnswer;
-use formats::answers::PlanAnswer;
-use formats::judge::judge;
-use formats::plan::plan;
+ghost use Rattle.operations.specs.Answers.{planOf, planOutput, planAnswer, planFigures, judgeOf, judgeAnswer, judgeFigures};
+use formats::refusal::tell;
+use operations::answers::JudgeAnswer;
+use operations::answers::PlanAnswer;
+use operations::judge::judge;
+use operations::plan::plan;
 
 // Plans a net. The number of the refusal is returned, 0 where nothing is refused.
 #[no_mangle]
@@ -18,7 +19,7 @@ pub extern "C" fn repeater_tree_plan(
     wire: &mut u64,
     bytes: &mut usize,
 ) -> u8
-    ensures figures { λ r. ⌜ (record { number = r; text = now (text .exit); line = now (line .exit); slack = now (slack .exit); wire = now (wire .exit); bytes = now (bytes .exit) }) ≡ planOf (now (net .entry)) (length (now (out .entry))) ⌝ }
+    ensures figures { λ r. ⌜ (record { number = r; text = now (text .exit); line = now (line .exit); slack = now (slack .exit); wire = now (wire .exit); bytes = now (bytes .exit) }) ≡ planFigures (planAnswer (planOf (now (net .entry)) (length (now (out .entry))))) ⌝ }
     ensures output { λ r. ⌜ now (out .exit) ≡ planOutput (now (net .entry)) (now (out .entry)) ⌝ }
 {
     match plan(net, out) {
@@ -34,17 +35,14 @@ pub extern "C" fn repeater_tree_plan(
             *bytes = written;
             0
         }
-        PlanAnswer::PlanRefused {
-            number,
-            text: which,
-            line: place,
-        } => {
-            *text = which;
-            *line = place;
+        PlanAnswer::PlanRefused { refusal } => {
+            let told = tell(refusal);
+            *text = told.text;
+            *line = told.line;
             *slack = 0;
             *wire = 0;
             *bytes = 0;
-            number
+            told.number
         }
     }
 }
@@ -60,10 +58,10 @@ pub extern "C" fn repeater_tree_judge(
     wire: &mut u64,
     best: &mut i64,
 ) -> u8
-    ensures { λ r. ⌜ (record { number = r; text = now (text .exit); line = now (line .exit); slack = now (slack .exit); wire = now (wire .exit); best = now (best .exit) }) ≡ judgeOf (now (net .entry)) (now (listing .entry)) ⌝ }
+    ensures { λ r. ⌜ (record { number = r; text = now (text .exit); line = now (line .exit); slack = now (slack .exit); wire = now (wire .exit); best = now (best .exit) }) ≡ judgeFigures (judgeAnswer (judgeOf (now (net .entry)) (now (listing .entry)))) ⌝ }
 {
     match judge(net, listing) {
-        JudgeAnswer::Accepted {
+        JudgeAnswer::Judged {
             slack: worst,
             wire: total,
             best: maximum,
@@ -75,17 +73,14 @@ pub extern "C" fn repeater_tree_judge(
             *best = maximum.value();
             0
         }
-        JudgeAnswer::JudgeRefused {
-            number,
-            text: which,
-            line: place,
-        } => {
-            *text = which;
-            *line = place;
+        JudgeAnswer::JudgeRefused { refusal } => {
+            let told = tell(refusal);
+            *text = told.text;
+            *line = told.line;
             *slack = 0;
             *wire = 0;
             *best = 0;
-            number
+            told.number
         }
     }
 }

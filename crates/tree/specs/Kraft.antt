@@ -47,16 +47,16 @@ abbrev pub top : List ℤ → ℕ
 top [] = 0
 top (f ∷ l) = max (upper f) (top l)
 
-abbrev pub kraftAt : ℕ → List ℤ → Bool
-kraftAt m fs = leb (powers m fs) (2 ^ m)
+abbrev pub meetsKraftAt : ℕ → List ℤ → Bool
+meetsKraftAt m fs = leb (powers m fs) (2 ^ m)
 
-abbrev pub kraft : ℕ → List ℤ → ℤ → Bool
-kraft c own s = kraftAt (top (floors c own s)) (floors c own s)
+abbrev pub meetsKraft : ℕ → List ℤ → ℤ → Bool
+meetsKraft c own s = meetsKraftAt (top (floors c own s)) (floors c own s)
 
 -- from s down, k steps at most, to the first that meets the condition
 unfoldable pub searchDown : ℕ → List ℤ → ℕ → ℤ → ℤ
 searchDown c own zero s = s
-searchDown c own (suc k) s = elim (kraft c own s) [ true ↦ s | false ↦ searchDown c own k (predℤ s) ]
+searchDown c own (suc k) s = elim (meetsKraft c own s) [ true ↦ s | false ↦ searchDown c own k (predℤ s) ]
 
 -- none above the least own slack meets it, and the least less n × c does
 unfoldable pub kraftMaximum : ℕ → List ℤ → ℤ

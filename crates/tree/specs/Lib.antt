@@ -1,4 +1,4 @@
--- What the contracts of this crate say, and what its theorems speak of; bottom first. Definitions alone.
+-- What a reviewer believes of nets, trees and planning, bottom first. Definitions and statements alone.
 pub mod Lists
 pub mod Net
 pub mod Tree
@@ -10,11 +10,6 @@ pub mod Theorem1
 pub mod SmallestSlack
 pub mod Defects
 pub mod Limits
-pub mod Arrays
-pub mod Tallies
-pub mod Found
-pub mod Insertion
-pub mod Choice
-pub mod Regathering
-pub mod SinkSplits
 pub mod Marked
+-- What serves the contracts of inner functions. Nothing of it need be believed.
+pub mod Inner

@@ -1,6 +1,6 @@
 -- The ranges of document 01, 'The net text' and 'The tree listing', each once. Definitions alone.
 use Prim.Native.Nat.{ℕ, _≤_}
-use Rattle.quantities.specs.Reach.{Within, PointWithin}
+use Rattle.quantities.specs.Ranges.{Within, PointWithin, FactorWithin}
 use Rattle.tree.specs.Net.{Net, size, sinkAt, required}
 
 -- "X and Y -100,000 to 100,000"
@@ -38,8 +38,8 @@ wireLimit = 1_000_000_000
 pub record InRange (N : Net) : Type 0 where
   pub root : PointWithin positionLimit (N .root)
   pub branch : (1 ≤ N .branch) × (N .branch ≤ branchLimit)
-  pub wire : (1 ≤ N .wire) × (N .wire ≤ wireFactorLimit)
+  pub wire : (1 ≤ N .wire .0) × FactorWithin wireFactorLimit (N .wire)
   pub need : Within needLimit (N .need)
   pub sinks : (1 ≤ size N) × (size N ≤ sinkLimit)
-  pub at : (s : ℕ) → 1 ≤ s → s ≤ size N → PointWithin positionLimit (sinkAt N s)
+  pub points : (s : ℕ) → 1 ≤ s → s ≤ size N → PointWithin positionLimit (sinkAt N s)
   pub required : (s : ℕ) → 1 ≤ s → s ≤ size N → Within requiredLimit (required N s)

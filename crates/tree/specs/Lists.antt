@@ -4,7 +4,7 @@ use mathlib.Core.Bool.{Bool, cond}
 use mathlib.Core.List.{List, [], _∷_}
 use mathlib.Core.Option.{Option, none, some}
 use lib.IntN.{ℤ, pos}
-use Rattle.quantities.specs.Order.{minℤ}
+use Rattle.quantities.specs.MinMax.{minℤ}
 
 -- the sum of f over a list
 abbrev pub sumOver : List ℕ → (ℕ → ℕ) → ℕ

@@ -15,18 +15,18 @@ use Rattle.tree.specs.Settling.{plan}
 use Rattle.tree.specs.SmallestSlack.{leastUnder, worstWith}
 use Rattle.tree.specs.Defects.{wrongChildren, unreached}
 
-abbrev pub at : ℤ → ℤ → Point
-at x y = record { x = x; y = y }
+abbrev pub point : ℤ → ℤ → Point
+point x y = record { x = x; y = y }
 
 abbrev pub sink : ℤ → ℤ → ℤ → Sink
-sink x y a = record { at = at x y; required = a }
+sink x y a = record { point = point x y; required = a }
 
 -- "A: `root=0,0`, `branch=20`, `wire=2`, `need=0`, `sinks=3`, `sink=10,0,100`, `sink=4,6,60`, `sink=10,10,70`."
 abbrev pub netA : Net
 netA = record {
-  root = at (pos 0) (pos 0);
+  root = point (pos 0) (pos 0);
   branch = 20;
-  wire = 2;
+  wire = record { 0 = 2 };
   need = pos 0;
   sinks = sink (pos 10) (pos 0) (pos 100) ∷ (sink (pos 4) (pos 6) (pos 60) ∷ (sink (pos 10) (pos 10) (pos 70) ∷ []));
 }
@@ -34,27 +34,27 @@ netA = record {
 -- "Three sinks at the root 0,0 with a = 0, c = 20, d = 2, t = -40"
 abbrev pub threeAtRoot : Net
 threeAtRoot = record {
-  root = at (pos 0) (pos 0);
+  root = point (pos 0) (pos 0);
   branch = 20;
-  wire = 2;
+  wire = record { 0 = 2 };
   need = negℤ (pos 40);
   sinks = sink (pos 0) (pos 0) (pos 0) ∷ (sink (pos 0) (pos 0) (pos 0) ∷ (sink (pos 0) (pos 0) (pos 0) ∷ []));
 }
 
 -- "One sink 3,4 from 0,0 with a = 10, d = 2"
 abbrev pub oneSink : ℕ → Net
-oneSink c = record { root = at (pos 0) (pos 0); branch = c; wire = 2; need = pos 0; sinks = sink (pos 3) (pos 4) (pos 10) ∷ [] }
+oneSink c = record { root = point (pos 0) (pos 0); branch = c; wire = record { 0 = 2 }; need = pos 0; sinks = sink (pos 3) (pos 4) (pos 10) ∷ [] }
 
 -- "Two sinks of own slack 5, c = 3"
 abbrev pub twoSinks : Net
-twoSinks = record { root = at (pos 0) (pos 0); branch = 3; wire = 2; need = pos 0; sinks = sink (pos 1) (pos 0) (pos 7) ∷ (sink (pos 0) (pos 0) (pos 5) ∷ []) }
+twoSinks = record { root = point (pos 0) (pos 0); branch = 3; wire = record { 0 = 2 }; need = pos 0; sinks = sink (pos 1) (pos 0) (pos 7) ∷ (sink (pos 0) (pos 0) (pos 5) ∷ []) }
 
 -- 02, request 1: two tied sinks away from the new one, which is near the root
 abbrev pub rootNearest : Net
 rootNearest = record {
-  root = at (pos 0) (pos 0);
+  root = point (pos 0) (pos 0);
   branch = 20;
-  wire = 2;
+  wire = record { 0 = 2 };
   need = negℤ (pos 40);
   sinks = sink (pos 10) (pos 0) (pos 20) ∷ (sink (pos 10) (pos 0) (pos 20) ∷ (sink (pos 1) (pos 0) (pos 2) ∷ []));
 }
@@ -62,9 +62,9 @@ rootNearest = record {
 -- 02, request 1: all edges tie for the new sink, which is nearer to sink 2 than to sink 1 and the root
 abbrev pub nearerSink : Net
 nearerSink = record {
-  root = at (pos 0) (pos 0);
+  root = point (pos 0) (pos 0);
   branch = 20;
-  wire = 2;
+  wire = record { 0 = 2 };
   need = negℤ (pos 40);
   sinks = sink (pos 10) (pos 0) (pos 20) ∷ (sink (pos 0) (pos 10) (pos 20) ∷ (sink (pos 1) (pos 10) (pos 22) ∷ []));
 }
@@ -72,7 +72,7 @@ nearerSink = record {
 pub record Marked : Type 0 where
   -- A: "Own slacks 80, 40, 30", its listing's parents and points, slack 0 and wire 32, and best 0
   pub A-own : ownSlacks netA ≡ pos 80 ∷ (pos 40 ∷ (pos 30 ∷ []))
-  pub A-tree : plan netA ≡ record { parents = 5 ∷ (5 ∷ (4 ∷ (0 ∷ (4 ∷ [])))); points = at (pos 4) (pos 0) ∷ (at (pos 4) (pos 0) ∷ []) }
+  pub A-tree : plan netA ≡ record { parents = 5 ∷ (5 ∷ (4 ∷ (0 ∷ (4 ∷ [])))); points = point (pos 4) (pos 0) ∷ (point (pos 4) (pos 0) ∷ []) }
   pub A-slack : worstSlack netA (plan netA) ≡ pos 0
   pub A-wire : wireLength netA (plan netA) ≡ 32
   pub A-best : IsKraftMaximum (netA .branch) (ownSlacks netA) (pos 0)
@@ -89,11 +89,11 @@ pub record Marked : Type 0 where
   -- two sinks: "slack 2"
   pub two-slack : worstSlack twoSinks (plan twoSinks) ≡ pos 2
   -- the edge above branch point 4, counted at the root's position, is the nearest: parents of 1 to 5 are 4, 4, 5, 5, 0
-  pub nearest-root : plan rootNearest ≡ record { parents = 4 ∷ (4 ∷ (5 ∷ (5 ∷ (0 ∷ [])))); points = at (pos 10) (pos 0) ∷ (at (pos 1) (pos 0) ∷ []) }
+  pub nearest-root : plan rootNearest ≡ record { parents = 4 ∷ (4 ∷ (5 ∷ (5 ∷ (0 ∷ [])))); points = point (pos 10) (pos 0) ∷ (point (pos 1) (pos 0) ∷ []) }
   pub nearest-root-slack : worstSlack rootNearest (plan rootNearest) ≡ negℤ (pos 40)
   pub nearest-root-wire : wireLength rootNearest (plan rootNearest) ≡ 10
   -- the edge to sink 2 is split, although sink 1 has the lower number
-  pub nearest-sink : plan nearerSink ≡ record { parents = 4 ∷ (5 ∷ (5 ∷ (0 ∷ (4 ∷ [])))); points = at (pos 0) (pos 0) ∷ (at (pos 0) (pos 10) ∷ []) }
+  pub nearest-sink : plan nearerSink ≡ record { parents = 4 ∷ (5 ∷ (5 ∷ (0 ∷ (4 ∷ [])))); points = point (pos 0) (pos 0) ∷ (point (pos 0) (pos 10) ∷ []) }
   pub nearest-sink-slack : worstSlack nearerSink (plan nearerSink) ≡ negℤ (pos 40)
   pub nearest-sink-wire : wireLength nearerSink (plan nearerSink) ≡ 21
   -- 02, request 3: in A sinks 3 and 2 go in first, under branch point 4. The least slacks under the root, 2, 3 and 4, then the worst slacks if sink 1 splits the
@@ -105,7 +105,7 @@ pub record Marked : Type 0 where
   -- three sinks at the root: "all edges tie for sink 3", the one above branch point 4 too
   pub three-tried : map (worstWith threeAtRoot 1) (1 ∷ (2 ∷ (4 ∷ []))) ≡ negℤ (pos 40) ∷ (negℤ (pos 40) ∷ (negℤ (pos 40) ∷ []))
   -- "The median of 0,0 and 4,6 and 10,0 is 4,0."
-  pub median-of-three : medianPoint (at (pos 0) (pos 0)) (at (pos 4) (pos 6)) (at (pos 10) (pos 0)) ≡ at (pos 4) (pos 0)
+  pub median-of-three : medianPoint (point (pos 0) (pos 0)) (point (pos 4) (pos 6)) (point (pos 10) (pos 0)) ≡ point (pos 4) (pos 0)
   -- "n = 3, parents of 1 to 5 are 0, 4, 5, 5, 4: 10,2,5": the counts are right, vertex 2 is not reached, so the tree is not legal
   pub ring-counts : wrongChildren 3 (0 ∷ (4 ∷ (5 ∷ (5 ∷ (4 ∷ []))))) ≡ none
   pub ring-unreached : unreached 3 (0 ∷ (4 ∷ (5 ∷ (5 ∷ (4 ∷ []))))) ≡ some 2

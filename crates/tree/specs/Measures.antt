@@ -5,9 +5,10 @@ use mathlib.Core.List.{List, [], _∷_, map}
 use lib.ListN.{length}
 use lib.Dec.{ltb}
 use lib.IntN.{ℤ, pos, _-ℤ_}
+use Rattle.quantities.specs.Delay.{delay}
 use Rattle.quantities.specs.Distance.{distance}
 use Rattle.tree.specs.Lists.{sumOver, range, least}
-use Rattle.tree.specs.Net.{Net, size, sinkNumbers, required, delay}
+use Rattle.tree.specs.Net.{Net, size, sinkNumbers, required}
 use Rattle.tree.specs.Tree.{Tree, parent, place}
 
 -- the path from the root to v, by the lower ends of its edges: v, its parent, .., the root's child. k bounds its length

@@ -1,22 +1,23 @@
 -- The net: document 01, 'The net text' and 'Measures'. Definitions alone.
-use Prim.Native.Nat.{ℕ, zero, suc, _*_, _-_}
+use Prim.Native.Nat.{ℕ, zero, suc, _-_}
 use mathlib.Core.List.{List, _∷_, map}
 use lib.ListN.{length, getD}
 use lib.IntN.{ℤ, pos, _-ℤ_}
 use Rattle.quantities.specs.declared.point.Point.{Point}
-use Rattle.quantities.specs.Distance.{distance}
+use Rattle.quantities.specs.declared.wire_factor.WireFactor.{WireFactor}
+use Rattle.quantities.specs.Delay.{delay}
 use Rattle.tree.specs.Lists.{range}
 
 -- `sink=X,Y,a`: a is the required arrival
 pub record Sink : Type 0 where
-  pub at : Point
+  pub point : Point
   pub required : ℤ
 
 -- `root=X,Y`, `branch=c`, `wire=d`, `need=t`, and the sinks 1 to n
 pub record Net : Type 0 where
   pub root : Point
   pub branch : ℕ
-  pub wire : ℕ
+  pub wire : WireFactor
   pub need : ℤ
   pub sinks : List Sink
 
@@ -33,15 +34,11 @@ branchNumbers n = range (suc n) (n - 1)
 
 -- where sink s stands, and its required arrival
 abbrev pub sinkAt : Net → ℕ → Point
-sinkAt N s = getD (N .root ∷ map (λ s. s .at) (N .sinks)) s (N .root)
+sinkAt N s = getD (N .root ∷ map (λ s. s .point) (N .sinks)) s (N .root)
 
 abbrev pub required : Net → ℕ → ℤ
 required N zero = pos 0
 required N (suc i) = getD (map (λ s. s .required) (N .sinks)) i (pos 0)
-
--- the delay of a straight wire from p to q: "A length becomes a time only by multiplication with the wire factor."
-unfoldable pub delay : ℕ → Point → Point → ℕ
-delay d p q = d * distance p q
 
 -- "Own slack a' of a sink = a - d × distance from the root."
 abbrev pub ownSlack : Net → ℕ → ℤ

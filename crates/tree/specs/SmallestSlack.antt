@@ -7,7 +7,7 @@ use mathlib.Core.List.{List, _∷_, map}
 use lib.ListN.{getD, take}
 use lib.Dec.{ltb}
 use lib.IntN.{ℤ, pos, _-ℤ_}
-use Rattle.quantities.specs.Order.{minℤ}
+use Rattle.quantities.specs.MinMax.{minℤ}
 use Rattle.tree.specs.Lists.{count, down, allWith, least}
 use Rattle.tree.specs.Net.{Net, size}
 use Rattle.tree.specs.Tree.{Tree, parent}
@@ -60,8 +60,8 @@ pub record FromLeavesUp (N : Net) (j : ℕ) (slacks : List ℤ) : Type 0 where
 -- ---- "then try the edges from those"
 
 -- "the number got from these for each edge": for the edge to v, from the numbers at the root and at v
-abbrev pub score : ℤ → List ℤ → ℕ → ℤ
-score branch slacks v = minℤ (getD slacks 0 (pos 0)) (getD slacks v (pos 0) -ℤ branch)
+abbrev pub scoreOf : ℤ → List ℤ → ℕ → ℤ
+scoreOf branch slacks v = minℤ (getD slacks 0 (pos 0)) (getD slacks v (pos 0) -ℤ branch)
 
 -- "the enlarged tree's worst slack", where the next sink splits the edge to v
 abbrev pub worstWith : Net → ℕ → ℕ → ℤ
@@ -71,4 +71,4 @@ pub record SmallestSlack (N : Net) : Type 0 where
   -- "Each gathered number is proved to be the least slack of the sinks at or under its vertex in the tree so far": what is gathered from the leaves up, and nothing else
   pub gathered : (j : ℕ) → j < size N → (slacks : List ℤ) → FromLeavesUp N j slacks ↔ Gathered N j slacks
   -- "and the number got from these for each edge to be the enlarged tree's worst slack": every edge, those above branch points too
-  pub tried : (j : ℕ) → suc j < size N → (slacks : List ℤ) → Gathered N j slacks → (v : ℕ) → InTree N j v → score (pos (N .branch)) slacks v ≡ worstWith N j v
+  pub tried : (j : ℕ) → suc j < size N → (slacks : List ℤ) → Gathered N j slacks → (v : ℕ) → InTree N j v → scoreOf (pos (N .branch)) slacks v ≡ worstWith N j v

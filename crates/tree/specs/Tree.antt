@@ -46,4 +46,4 @@ pub record LegalTree (N : Net) (T : Tree) : Type 0 where
 
 -- "The root and the sinks stand where the net puts them, branch points at any integer points."
 abbrev pub place : Net → Tree → ℕ → Point
-place N T v = getD (N .root ∷ (map (λ s. s .at) (N .sinks) ++ T .points)) v (N .root)
+place N T v = getD (N .root ∷ (map (λ s. s .point) (N .sinks) ++ T .points)) v (N .root)

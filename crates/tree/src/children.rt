@@ -7,8 +7,8 @@ ghost use lib.ListN.{length, getD};
 ghost use Rattle.tree.specs.Lists.{count, firstWith};
 ghost use Rattle.tree.specs.Net.{branchNumbers};
 ghost use Rattle.tree.specs.Defects.{wrongChildren};
-ghost use Rattle.tree.specs.Arrays.{parentsOf, Parents};
-ghost use Rattle.tree.specs.Found.{foundIn};
+ghost use Rattle.tree.specs.Inner.Arrays.{parentsOf, Parents};
+ghost use Rattle.tree.specs.Inner.Found.{foundIn};
 use crate::found::Found;
 use crate::places::clear;
 

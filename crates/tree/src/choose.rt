@@ -6,12 +6,13 @@ ghost use lib.ListN.{length, getD};
 ghost use lib.IntN.{pos, _-ℤ_};
 ghost use lib.Signed.{ltZ, _≤ℤ_};
 ghost use Rattle.quantities.specs.Distance.{distance};
-ghost use Rattle.quantities.specs.Reach.{Within, PointWithin, timeReach};
+ghost use Rattle.quantities.specs.Ranges.{Within, PointWithin};
+ghost use Rattle.quantities.specs.Inner.Reach.{timeReach};
 ghost use Rattle.tree.specs.Net.{Net, size};
-ghost use Rattle.tree.specs.Limits.{positionLimit};
-ghost use Rattle.tree.specs.Arrays.{pointAt};
-ghost use Rattle.tree.specs.SmallestSlack.{InTree, Gathered, score, worstWith};
-ghost use Rattle.tree.specs.Choice.{farAt, firstOf, edgeTo, scoredAt, roomierOf, RoomiestFrom, BestEnd, BestEdge, SinkEnd, SinkFrom, AnyEnd, PlacesWithin, SinkWithin, CanScore, NoneRoomier, FirstAsGood};
+ghost use Rattle.tree.specs.Limits.{positionLimit, sinkLimit};
+ghost use Rattle.tree.specs.Inner.Arrays.{pointAt};
+ghost use Rattle.tree.specs.SmallestSlack.{InTree, Gathered, scoreOf, worstWith};
+ghost use Rattle.tree.specs.Inner.Choice.{farAt, firstOf, edgeTo, scoredAt, roomierOf, RoomiestFrom, BestEnd, BestEdge, SinkEnd, SinkFrom, AnyEnd, PlacesWithin, SinkWithin, CanScore, NoneRoomier, FirstAsGood};
 use crate::measure::point;
 use quantities::length::Length;
 use quantities::point::distance;
@@ -33,7 +34,7 @@ pub struct Scored {
 // What the worst slack becomes if the edge to v is split, from the gathered numbers: the new sink is never worse off than the worst under v.
 pub fn score_of(slacks: &[i64], branch: Time, v: usize) -> Time
     requires { ⌜ CanScore (branch .0) (now slacks) v ⌝ }
-    ensures number { λ r. ⌜ r .0 ≡ score (branch .0) (now (slacks .entry)) v ⌝ }
+    ensures number { λ r. ⌜ r .0 ≡ scoreOf (branch .0) (now (slacks .entry)) v ⌝ }
     ensures worst { λ r. ⌜ ((N : Net) (j : ℕ) → 1 ≤ N .branch → branch .0 ≡ pos (N .branch) → suc j < size N → Gathered N j (now (slacks .entry)) → InTree N j v → r .0 ≡ worstWith N j v) ⌝ }
 {
     let worst = Time::of(slacks[0]);
@@ -78,7 +79,7 @@ fn nearer_of(a: Edge, b: Edge) -> Edge
 // The better of the best sink so far and the one at place i of the order: this only where it scores more.
 fn or_roomier(best: Scored, sinks: &[usize], slacks: &[i64], branch: Time, i: usize) -> Scored
     requires { ⌜ (i < length (now sinks)) × CanScore (branch .0) (now slacks) (getD (now sinks) i 0) ⌝ }
-    ensures { λ r. ⌜ r ≡ roomierOf (scoredAt (score (branch .0) (now (slacks .entry))) (now (sinks .entry)) i) best ⌝ }
+    ensures { λ r. ⌜ r ≡ roomierOf (scoredAt (scoreOf (branch .0) (now (slacks .entry))) (now (sinks .entry)) i) best ⌝ }
 {
     let score = score_of(slacks, branch, sinks[i]);
     let most = best.score;
@@ -93,7 +94,7 @@ fn or_roomier(best: Scored, sinks: &[usize], slacks: &[i64], branch: Time, i: us
 fn roomiest(m: usize, sinks: &[usize], slacks: &[i64], branch: Time) -> Scored
     requires { ⌜ (1 ≤ m) × (m ≤ length (now sinks)) ⌝ }
     requires { ⌜ ((i : ℕ) → i < m → CanScore (branch .0) (now slacks) (getD (now sinks) i 0)) ⌝ }
-    ensures { λ r. ⌜ RoomiestFrom (score (branch .0) (now (slacks .entry))) (now (sinks .entry)) 0 m r ⌝ }
+    ensures { λ r. ⌜ RoomiestFrom (scoreOf (branch .0) (now (slacks .entry))) (now (sinks .entry)) 0 m r ⌝ }
 {
     let worst = Time::of(slacks[0]);
     let mut i = m - 1;
@@ -120,8 +121,8 @@ fn or_nearer_sink(
     s: usize,
 ) -> Edge
     requires { ⌜ PlacesWithin n (now xs) (now ys) × (s ≤ n) × SinkWithin n (now slacks) u × Within timeReach (branch .0) ⌝ }
-    requires { ⌜ (score (branch .0) (now slacks) u ≤ℤ best .score .0) × (best .score .0 ≤ℤ getD (now slacks) 0 (pos 0)) ⌝ }
-    ensures { λ r. ⌜ r ≡ firstOf (edgeTo (score (branch .0) (now (slacks .entry))) (farAt n (now (xs .entry)) (now (ys .entry)) s) u) best ⌝ }
+    requires { ⌜ (scoreOf (branch .0) (now slacks) u ≤ℤ best .score .0) × (best .score .0 ≤ℤ getD (now slacks) 0 (pos 0)) ⌝ }
+    ensures { λ r. ⌜ r ≡ firstOf (edgeTo (scoreOf (branch .0) (now (slacks .entry))) (farAt n (now (xs .entry)) (now (ys .entry)) s) u) best ⌝ }
 {
     let score = best.score;
     if lacks_room(slacks, branch, u, score) {
@@ -145,8 +146,8 @@ fn or_nearer_sinks(
 ) -> Edge
     requires { ⌜ PlacesWithin n (now xs) (now ys) × (s ≤ n) × (left ≤ length (now sinks)) × Within timeReach (branch .0) ⌝ }
     requires { ⌜ ((i : ℕ) → i < left → SinkWithin n (now slacks) (getD (now sinks) i 0)) ⌝ }
-    requires { ⌜ ((i : ℕ) → i < left → score (branch .0) (now slacks) (getD (now sinks) i 0) ≤ℤ found .score .0) × (found .score .0 ≤ℤ getD (now slacks) 0 (pos 0)) ⌝ }
-    ensures { λ r. ⌜ ((m : ℕ) → left ≤ m → BestEdge (SinkFrom (now (sinks .entry)) left m) (score (branch .0) (now (slacks .entry))) (farAt n (now (xs .entry)) (now (ys .entry)) s) found → BestEdge (SinkFrom (now (sinks .entry)) 0 m) (score (branch .0) (now (slacks .entry))) (farAt n (now (xs .entry)) (now (ys .entry)) s) r) ⌝ }
+    requires { ⌜ ((i : ℕ) → i < left → scoreOf (branch .0) (now slacks) (getD (now sinks) i 0) ≤ℤ found .score .0) × (found .score .0 ≤ℤ getD (now slacks) 0 (pos 0)) ⌝ }
+    ensures { λ r. ⌜ ((m : ℕ) → left ≤ m → BestEdge (SinkFrom (now (sinks .entry)) left m) (scoreOf (branch .0) (now (slacks .entry))) (farAt n (now (xs .entry)) (now (ys .entry)) s) found → BestEdge (SinkFrom (now (sinks .entry)) 0 m) (scoreOf (branch .0) (now (slacks .entry))) (farAt n (now (xs .entry)) (now (ys .entry)) s) r) ⌝ }
 {
     let mut best = found;
     let mut i = left;
@@ -170,7 +171,7 @@ fn best_sink(
 ) -> Edge
     requires { ⌜ PlacesWithin n (now xs) (now ys) × (s ≤ n) × (1 ≤ m) × (m ≤ length (now sinks)) × Within timeReach (branch .0) ⌝ }
     requires { ⌜ ((i : ℕ) → i < m → SinkWithin n (now slacks) (getD (now sinks) i 0)) ⌝ }
-    ensures { λ r. ⌜ BestEdge (SinkEnd (now (sinks .entry)) m) (score (branch .0) (now (slacks .entry))) (farAt n (now (xs .entry)) (now (ys .entry)) s) r ⌝ }
+    ensures { λ r. ⌜ BestEdge (SinkEnd (now (sinks .entry)) m) (scoreOf (branch .0) (now (slacks .entry))) (farAt n (now (xs .entry)) (now (ys .entry)) s) r ⌝ }
 {
     let most = roomiest(m, sinks, slacks, branch);
     let at = most.place;
@@ -187,14 +188,14 @@ fn best_sink(
 // Whether the edge to v scores less than `least`.
 fn scores_less(slacks: &[i64], branch: Time, v: usize, least: Time) -> bool
     requires { ⌜ CanScore (branch .0) (now slacks) v ⌝ }
-    ensures { λ r. ⌜ r ≡ ltZ (score (branch .0) (now (slacks .entry)) v) (least .0) ⌝ }
+    ensures { λ r. ⌜ r ≡ ltZ (scoreOf (branch .0) (now (slacks .entry)) v) (least .0) ⌝ }
 {
     score_of(slacks, branch, v).is_less(least)
 }
 
 // The lowest of the branch points n+1 to n+k that scores as much as `best`, or the end of `best` where none does.
 fn first_as_good(best: Edge, n: usize, k: usize, slacks: &[i64], branch: Time) -> usize
-    requires { ⌜ (n ≤ 512) × (k ≤ n) × (n + k < length (now slacks)) × Within timeReach (branch .0) ⌝ }
+    requires { ⌜ (n ≤ sinkLimit) × (k ≤ n) × (n + k < length (now slacks)) × Within timeReach (branch .0) ⌝ }
     requires { ⌜ ((b : ℕ) → n < b → b ≤ n + k → Within timeReach (getD (now slacks) b (pos 0))) ⌝ }
     ensures { λ r. ⌜ FirstAsGood (branch .0) (now (slacks .entry)) (best .score .0) n k (best .end) r ⌝ }
 {
@@ -215,9 +216,9 @@ fn or_branch_point(
     branch: Time,
     far: Length,
 ) -> usize
-    requires { ⌜ (n ≤ 512) × (k ≤ n) × (n + k < length (now slacks)) × Within timeReach (branch .0) ⌝ }
+    requires { ⌜ (n ≤ sinkLimit) × (k ≤ n) × (n + k < length (now slacks)) × Within timeReach (branch .0) ⌝ }
     requires { ⌜ ((b : ℕ) → n < b → b ≤ n + k → Within timeReach (getD (now slacks) b (pos 0))) ⌝ }
-    ensures { λ r. ⌜ ((sinks : List ℕ) (d : ℕ → ℕ) → ((i : ℕ) → i < suc k → getD sinks i 0 ≤ n) → ((b : ℕ) → n < b → d b ≡ far .0) → NoneRoomier n k sinks (now (slacks .entry)) → BestEdge (SinkEnd sinks (suc k)) (score (branch .0) (now (slacks .entry))) d best → BestEnd (AnyEnd sinks (suc k) n k) (score (branch .0) (now (slacks .entry))) d r) ⌝ }
+    ensures { λ r. ⌜ ((sinks : List ℕ) (d : ℕ → ℕ) → ((i : ℕ) → i < suc k → getD sinks i 0 ≤ n) → ((b : ℕ) → n < b → d b ≡ far .0) → NoneRoomier n k sinks (now (slacks .entry)) → BestEdge (SinkEnd sinks (suc k)) (scoreOf (branch .0) (now (slacks .entry))) d best → BestEnd (AnyEnd sinks (suc k) n k) (scoreOf (branch .0) (now (slacks .entry))) d r) ⌝ }
 {
     let nearest = best.far;
     if far.is_less(nearest) {
@@ -237,11 +238,11 @@ pub fn choose(
     branch: Time,
     s: usize,
 ) -> usize
-    requires { ⌜ PlacesWithin n (now xs) (now ys) × (s ≤ n) × (n ≤ 512) × (suc k ≤ n) × (suc k ≤ length (now sinks)) × (n + k < length (now slacks)) × Within timeReach (branch .0) ⌝ }
+    requires { ⌜ PlacesWithin n (now xs) (now ys) × (s ≤ n) × (n ≤ sinkLimit) × (suc k ≤ n) × (suc k ≤ length (now sinks)) × (n + k < length (now slacks)) × Within timeReach (branch .0) ⌝ }
     requires { ⌜ ((i : ℕ) → i < suc k → SinkWithin n (now slacks) (getD (now sinks) i 0)) ⌝ }
     requires { ⌜ ((b : ℕ) → n < b → b ≤ n + k → Within timeReach (getD (now slacks) b (pos 0))) ⌝ }
     requires { ⌜ NoneRoomier n k (now sinks) (now slacks) ⌝ }
-    ensures { λ r. ⌜ BestEnd (AnyEnd (now (sinks .entry)) (suc k) n k) (score (branch .0) (now (slacks .entry))) (farAt n (now (xs .entry)) (now (ys .entry)) s) r ⌝ }
+    ensures { λ r. ⌜ BestEnd (AnyEnd (now (sinks .entry)) (suc k) n k) (scoreOf (branch .0) (now (slacks .entry))) (farAt n (now (xs .entry)) (now (ys .entry)) s) r ⌝ }
 {
     let nearest = best_sink(n, k + 1, xs, ys, sinks, slacks, branch, s);
     let far = far_apart(xs, ys, 0, s);

@@ -7,14 +7,17 @@ ghost use mathlib.Core.List.{List};
 ghost use Prim.Native.Nat.{ℕ, suc, _+_, _*_, _≤_, _<_};
 ghost use lib.ListN.{length, getD, set};
 ghost use lib.IntN.{ℤ, pos, _-ℤ_, _*ℤ_};
-ghost use Rattle.quantities.specs.Order.{minℤ};
-ghost use Rattle.quantities.specs.Reach.{Within, termReach, timeReach};
+ghost use Rattle.quantities.specs.MinMax.{minℤ};
+ghost use Rattle.quantities.specs.Ranges.{Within};
+ghost use Rattle.quantities.specs.Inner.Reach.{termReach, timeReach};
 ghost use Rattle.tree.specs.Lists.{count};
 ghost use Rattle.tree.specs.Net.{Net};
-ghost use Rattle.tree.specs.Arrays.{Chained};
+ghost use Rattle.tree.specs.Limits.{sinkLimit};
+ghost use Rattle.tree.specs.Inner.DerivedLimits.{edgeLimit};
+ghost use Rattle.tree.specs.Inner.Arrays.{Chained};
 ghost use Rattle.tree.specs.SmallestSlack.{nextSink, InTree, Gathered};
-ghost use Rattle.tree.specs.Insertion.{Ready, Leveled, HoldsSoFar, SplitsNext};
-ghost use Rattle.tree.specs.Regathering.{Deepens, Sinks, Lowered, Falling, Raised, isBehind, wayUp};
+ghost use Rattle.tree.specs.Inner.Insertion.{Ready, Leveled, HoldsSoFar, SplitsNext};
+ghost use Rattle.tree.specs.Inner.Regathering.{Deepens, DeepensUnder, Lowered, Falling, Raised, isBehind, wayUp};
 use quantities::time::Time;
 
 // Where the parent of u has become one level deeper, u does too, and the least slack under it is lower by the cost of a branch point.
@@ -26,7 +29,7 @@ fn follow_parent(
     u: usize,
 )
     requires { ⌜ (u < length (now parents)) × (u < length (now levels)) × (getD (now parents) u 0 < length (now levels)) × (u < length (now slacks)) ⌝ }
-    requires { ⌜ (getD (now levels) (getD (now parents) u 0) 0 ≤ 1024) × Within timeReach (getD (now slacks) u (pos 0)) × Within timeReach (branch .0) ⌝ }
+    requires { ⌜ (getD (now levels) (getD (now parents) u 0) 0 ≤ 2 * sinkLimit) × Within timeReach (getD (now slacks) u (pos 0)) × Within timeReach (branch .0) ⌝ }
     ensures levels { λ r. ⌜ now (levels .exit) ≡ cond (isBehind (now (parents .entry)) (now (levels .entry)) u) (set (now (levels .entry)) u (getD (now (levels .entry)) (getD (now (parents .entry)) u 0) 0 + 1)) (now (levels .entry)) ⌝ }
     ensures slacks { λ r. ⌜ now (slacks .exit) ≡ cond (isBehind (now (parents .entry)) (now (levels .entry)) u) (set (now (slacks .entry)) u (getD (now (slacks .entry)) u (pos 0) -ℤ branch .0)) (now (slacks .entry)) ⌝ }
 {
@@ -48,7 +51,7 @@ fn lower_below(
     levels: &mut [usize],
     slacks: &mut [i64],
 )
-    requires { ⌜ ((us : List ℕ) × (j : ℕ) × (D : ℕ → ℕ) × (ls : List ℕ) × (ss : List ℤ) × Chained m us (now below) × (j < m) × (getD us j 0 ≡ v) × Deepens (now parents) us m j ls D × Lowered us m D (branch .0) ls ss j (now levels) (now slacks) × ((h : ℕ) → h < j → getD ls (getD us h 0) 0 ≤ 1023) × ((h : ℕ) → h < j → Within timeReach (getD ss (getD us h 0) (pos 0))) × ((h : ℕ) → h < m → (getD us h 0 < length (now parents)) × (getD us h 0 < length (now below)) × (getD us h 0 < length (now levels)) × (getD (now parents) (getD us h 0) 0 < length (now levels)) × (getD us h 0 < length (now slacks)))) ⌝ }
+    requires { ⌜ ((us : List ℕ) × (j : ℕ) × (D : ℕ → ℕ) × (ls : List ℕ) × (ss : List ℤ) × Chained m us (now below) × (j < m) × (getD us j 0 ≡ v) × Deepens (now parents) us m j ls D × Lowered us m D (branch .0) ls ss j (now levels) (now slacks) × ((h : ℕ) → h < j → getD ls (getD us h 0) 0 ≤ edgeLimit) × ((h : ℕ) → h < j → Within timeReach (getD ss (getD us h 0) (pos 0))) × ((h : ℕ) → h < m → (getD us h 0 < length (now parents)) × (getD us h 0 < length (now below)) × (getD us h 0 < length (now levels)) × (getD (now parents) (getD us h 0) 0 < length (now levels)) × (getD us h 0 < length (now slacks)))) ⌝ }
     requires { ⌜ Within timeReach (branch .0) ⌝ }
     ensures { λ r. ⌜ ((us : List ℕ) (j : ℕ) (D : ℕ → ℕ) (ls : List ℕ) (ss : List ℤ) → Chained m us (now (below .entry)) → j < m → getD us j 0 ≡ v → Deepens (now (parents .entry)) us m j ls D → Lowered us m D (branch .0) ls ss j (now (levels .entry)) (now (slacks .entry)) → Lowered us m D (branch .0) ls ss 0 (now (levels .exit)) (now (slacks .exit))) ⌝ }
 {
@@ -89,7 +92,7 @@ fn hang_new(
     b: usize,
 )
     requires { ⌜ (s < length (now own)) × (v < length (now levels)) × (s < length (now levels)) × (b < length (now levels)) × (v < length (now slacks)) × (s < length (now slacks)) × (b < length (now slacks)) ⌝ }
-    requires { ⌜ (getD (now levels) v 0 ≤ 1023) × Within timeReach (getD (now slacks) v (pos 0)) × Within termReach (getD (now own) s (pos 0)) × Within termReach (branch .0) ⌝ }
+    requires { ⌜ (getD (now levels) v 0 ≤ edgeLimit) × Within timeReach (getD (now slacks) v (pos 0)) × Within timeReach (getD (now own) s (pos 0)) × Within termReach (branch .0) ⌝ }
     ensures levels { λ r. ⌜ now (levels .exit) ≡ set (set (now (levels .entry)) s (getD (now (levels .entry)) v 0 + 1)) b (getD (now (levels .entry)) v 0) ⌝ }
     ensures slacks { λ r. ⌜ now (slacks .exit) ≡ set (set (now (slacks .entry)) s (getD (now (own .entry)) s (pos 0) -ℤ branch .0 *ℤ pos (getD (now (levels .entry)) v 0))) b (getD (now (slacks .entry)) v (pos 0) -ℤ branch .0) ⌝ }
 {
@@ -113,9 +116,9 @@ fn lower(
     levels: &mut [usize],
     slacks: &mut [i64],
 )
-    requires { ⌜ ((us : List ℕ) × (j : ℕ) × (D : ℕ → ℕ) × Chained m us (now below) × (j < m) × (getD us j 0 ≡ v) × Sinks (now parents) us n m j (now levels) D × ((h : ℕ) → h < m → getD (now levels) (getD us h 0) 0 ≤ 1023) × ((h : ℕ) → h < m → Within timeReach (getD (now slacks) (getD us h 0) (pos 0))) × ((h : ℕ) → h < m → (getD us h 0 < length (now parents)) × (getD us h 0 < length (now below)) × (getD us h 0 < length (now levels)) × (getD (now parents) (getD us h 0) 0 < length (now levels)) × (getD us h 0 < length (now slacks)))) ⌝ }
+    requires { ⌜ ((us : List ℕ) × (j : ℕ) × (D : ℕ → ℕ) × Chained m us (now below) × (j < m) × (getD us j 0 ≡ v) × DeepensUnder (now parents) us n m j (now levels) D × ((h : ℕ) → h < m → getD (now levels) (getD us h 0) 0 ≤ edgeLimit) × ((h : ℕ) → h < m → Within timeReach (getD (now slacks) (getD us h 0) (pos 0))) × ((h : ℕ) → h < m → (getD us h 0 < length (now parents)) × (getD us h 0 < length (now below)) × (getD us h 0 < length (now levels)) × (getD (now parents) (getD us h 0) 0 < length (now levels)) × (getD us h 0 < length (now slacks)))) ⌝ }
     requires { ⌜ Within timeReach (branch .0) ⌝ }
-    ensures { λ r. ⌜ ((us : List ℕ) (j : ℕ) (D : ℕ → ℕ) → Chained m us (now (below .entry)) → j < m → getD us j 0 ≡ v → Sinks (now (parents .entry)) us n m j (now (levels .entry)) D → Lowered us m D (branch .0) (now (levels .entry)) (now (slacks .entry)) 0 (now (levels .exit)) (now (slacks .exit))) ⌝ }
+    ensures { λ r. ⌜ ((us : List ℕ) (j : ℕ) (D : ℕ → ℕ) → Chained m us (now (below .entry)) → j < m → getD us j 0 ≡ v → DeepensUnder (now (parents .entry)) us n m j (now (levels .entry)) D → Lowered us m D (branch .0) (now (levels .entry)) (now (slacks .entry)) 0 (now (levels .exit)) (now (slacks .exit))) ⌝ }
 {
     levels[v] = levels[v] + 1;
     slacks[v] = Time::of(slacks[v]).minus(branch).value();

@@ -4,11 +4,12 @@ ghost use Prim.Native.Nat.{ℕ, suc, _+_, _*_, _-_, _≤_, _<_};
 ghost use lib.ListN.{length, getD, set};
 ghost use lib.IntN.{pos};
 ghost use Rattle.tree.specs.Net.{Net};
+ghost use Rattle.tree.specs.Limits.{sinkLimit};
 ghost use Rattle.tree.specs.Measures.{slack};
 ghost use Rattle.tree.specs.Planning.{tieRule, planParents};
 ghost use Rattle.tree.specs.Settling.{planBy};
-ghost use Rattle.tree.specs.Arrays.{parentsOf, LeavesUp, Below};
-ghost use Rattle.tree.specs.Insertion.{Ready, Lined, Placed, HoldsSoFar};
+ghost use Rattle.tree.specs.Inner.Arrays.{parentsOf, LeavesUp, UnderRoot};
+ghost use Rattle.tree.specs.Inner.Insertion.{Ready, Lined, Placed, HoldsSoFar};
 use crate::choose::choose;
 use crate::gather::regather;
 use crate::places::clear;
@@ -61,7 +62,7 @@ fn insert_first(
     parents: &mut [usize],
     below: &mut [usize],
 )
-    requires { ⌜ (1 ≤ n) × (n ≤ 512) × (first < length (now own)) × (first < length (now levels)) × (first < length (now slacks)) × (2 * n ≤ length (now parents)) × (first < length (now below)) × (1 ≤ first) ⌝ }
+    requires { ⌜ (1 ≤ n) × (n ≤ sinkLimit) × (first < length (now own)) × (first < length (now levels)) × (first < length (now slacks)) × (2 * n ≤ length (now parents)) × (first < length (now below)) × (1 ≤ first) ⌝ }
     ensures levels { λ r. ⌜ now (levels .exit) ≡ set (set (now (levels .entry)) 0 0) first 1 ⌝ }
     ensures slacks { λ r. ⌜ now (slacks .exit) ≡ set (set (now (slacks .entry)) 0 (getD (now (own .entry)) first (pos 0))) first (getD (now (own .entry)) first (pos 0)) ⌝ }
     ensures parents { λ r. ⌜ ((v : ℕ) → v < 2 * n → getD (now (parents .exit)) v 0 ≡ 0) ⌝ }
@@ -92,7 +93,7 @@ pub fn insert_all(
     requires { ⌜ ((N : Net) × (Ready N (branch .0) n (now own) × Lined N n (now sinks) × Placed N n (now xs) (now ys))) ⌝ }
     requires { ⌜ (2 * n ≤ length (now levels)) × (2 * n ≤ length (now slacks)) × (2 * n ≤ length (now parents)) × (2 * n ≤ length (now below)) ⌝ }
     ensures tree { λ r. ⌜ ((N : Net) → Ready N (branch .0) n (now (own .entry)) → Lined N n (now (sinks .entry)) → Placed N n (now (xs .entry)) (now (ys .entry)) → parentsOf n (now (parents .exit)) ≡ planParents tieRule N) ⌝ }
-    ensures order { λ r. ⌜ LeavesUp (Below n) (2 * n - 1) (now (parents .exit)) (now (levels .exit)) ⌝ }
+    ensures order { λ r. ⌜ LeavesUp (UnderRoot n) (2 * n - 1) (now (parents .exit)) (now (levels .exit)) ⌝ }
     ensures slacks { λ r. ⌜ ((N : Net) → Ready N (branch .0) n (now (own .entry)) → Lined N n (now (sinks .entry)) → Placed N n (now (xs .entry)) (now (ys .entry)) → (s : ℕ) → 1 ≤ s → s ≤ n → getD (now (slacks .exit)) s (pos 0) ≡ slack N (planBy tieRule N) s) ⌝ }
 {
     insert_first(n, own, sinks[0], levels, slacks, parents, below);

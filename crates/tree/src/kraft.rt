@@ -3,22 +3,29 @@ ghost use mathlib.Core.Path.{_≡_};
 ghost use mathlib.Core.Bool.{cond};
 ghost use Prim.Native.Nat.{ℕ, suc, _≤_, _<_};
 ghost use lib.ListN.{length, getD, set};
-ghost use lib.IntN.{ℤ, pos, _+ℤ_, _-ℤ_};
+ghost use lib.IntN.{pos, _+ℤ_, _-ℤ_};
 ghost use lib.Signed.{ltZ};
-ghost use Rattle.quantities.specs.Reach.{Within, termReach};
+ghost use Rattle.quantities.specs.Ranges.{Within};
+ghost use Rattle.quantities.specs.Inner.Reach.{termReach, timeReach};
 ghost use Rattle.tree.specs.Net.{Net, ownSlacks};
 ghost use Rattle.tree.specs.Kraft.{IsKraftMaximum};
-ghost use Rattle.tree.specs.Arrays.{netOf, HoldsNet};
+ghost use Rattle.tree.specs.Inner.DerivedLimits.{ownSlackLimit};
+ghost use Rattle.tree.specs.Inner.Arrays.{netOf, HoldsNet};
 ghost use Rattle.tree.specs.SmallestSlack.{sinksIn};
-ghost use Rattle.tree.specs.SinkSplits.{Sorted, Kept, LargestAt, absent, worstIfSplit};
+ghost use Rattle.tree.specs.Inner.SinkSplits.{SinksReady, Kept, LargestAt, absentLimit, absent, worstIfSplit};
 use crate::header::Header;
+use crate::limits::BRANCH_LIMIT;
+use crate::limits::POSITION_LIMIT;
+use crate::limits::REQUIRED_LIMIT;
+use crate::limits::SINK_LIMIT;
+use crate::limits::WIRE_FACTOR_LIMIT;
 use crate::order::order_sinks;
 use crate::order::own_slacks;
 use quantities::time::Time;
 
 // What the worst slack becomes if the edge above sink u is split. The new sink is never worse off than u: its own slack is no less.
 fn worst_if_split(slacks: &[i64], worst: Time, branch: Time, u: usize) -> Time
-    requires { ⌜ (u < length (now slacks)) × Within termReach (getD (now slacks) u (pos 0)) × Within termReach (branch .0) ⌝ }
+    requires { ⌜ (u < length (now slacks)) × Within timeReach (getD (now slacks) u (pos 0)) × Within timeReach (branch .0) ⌝ }
     ensures { λ r. ⌜ r .0 ≡ worstIfSplit (worst .0) (branch .0) (now (slacks .entry)) u ⌝ }
 {
     worst.least(Time::of(slacks[u]).minus(branch))
@@ -32,7 +39,7 @@ struct Candidate {
 
 // The roomier of the best so far and sink u: u only where it leaves a larger worst slack.
 fn roomier(best: Candidate, slacks: &[i64], worst: Time, branch: Time, u: usize) -> Candidate
-    requires { ⌜ (u < length (now slacks)) × Within termReach (getD (now slacks) u (pos 0)) × Within termReach (branch .0) ⌝ }
+    requires { ⌜ (u < length (now slacks)) × Within timeReach (getD (now slacks) u (pos 0)) × Within timeReach (branch .0) ⌝ }
     ensures sink { λ r. ⌜ r .sink ≡ cond (ltZ (best .worst .0) (worstIfSplit (worst .0) (branch .0) (now (slacks .entry)) u)) u (best .sink) ⌝ }
     ensures worst { λ r. ⌜ r .worst .0 ≡ cond (ltZ (best .worst .0) (worstIfSplit (worst .0) (branch .0) (now (slacks .entry)) u)) (worstIfSplit (worst .0) (branch .0) (now (slacks .entry)) u) (best .worst .0) ⌝ }
 {
@@ -49,8 +56,8 @@ fn roomier(best: Candidate, slacks: &[i64], worst: Time, branch: Time, u: usize)
 
 // A sink whose edge is best to split. None leaves more than `worst`, so the search ends at the first that leaves no less.
 fn roomiest_sink(n: usize, slacks: &[i64], worst: Time, branch: Time) -> usize
-    requires { ⌜ (1 ≤ n) × (n < length (now slacks)) × Within termReach (branch .0) ⌝ }
-    requires { ⌜ ((u : ℕ) → 1 ≤ u → u ≤ n → Within termReach (getD (now slacks) u (pos 0))) ⌝ }
+    requires { ⌜ (1 ≤ n) × (n < length (now slacks)) × Within timeReach (branch .0) ⌝ }
+    requires { ⌜ ((u : ℕ) → 1 ≤ u → u ≤ n → Within timeReach (getD (now slacks) u (pos 0))) ⌝ }
     ensures { λ r. ⌜ LargestAt (worstIfSplit (worst .0) (branch .0) (now (slacks .entry))) n r ⌝ }
 {
     let mut best = Candidate {
@@ -68,7 +75,7 @@ fn roomiest_sink(n: usize, slacks: &[i64], worst: Time, branch: Time) -> usize
 // The slacks after the split of the edge above sink v: v has one branch point more above it, and sink s as many as v.
 fn deepen(own: &[i64], slacks: &mut [i64], branch: Time, v: usize, s: usize)
     requires { ⌜ (v < length (now own)) × (s < length (now own)) × (v < length (now slacks)) × (s < length (now slacks)) ⌝ }
-    requires { ⌜ Within termReach (branch .0) × Within termReach (getD (now slacks) v (pos 0)) × Within termReach (getD (now own) v (pos 0)) × Within termReach (getD (now own) s (pos 0)) ⌝ }
+    requires { ⌜ Within termReach (branch .0) × Within absentLimit (getD (now slacks) v (pos 0)) × Within ownSlackLimit (getD (now own) v (pos 0)) × Within ownSlackLimit (getD (now own) s (pos 0)) ⌝ }
     ensures { λ r. ⌜ now (slacks .exit) ≡ set (set (now (slacks .entry)) v (getD (now (slacks .entry)) v (pos 0) -ℤ branch .0)) s (getD (now (own .entry)) s (pos 0) -ℤ getD (now (own .entry)) v (pos 0) +ℤ (getD (now (slacks .entry)) v (pos 0) -ℤ branch .0)) ⌝ }
 {
     let lowered = Time::of(slacks[v]).minus(branch);
@@ -87,9 +94,9 @@ fn next_worst(
     branch: Time,
     worst: Time,
 ) -> Time
-    requires { ⌜ ((N : Net) × (Sorted N (branch .0) n (now own) (now sinks) × Kept N (sinksIn N k) (now slacks) (worst .0))) ⌝ }
+    requires { ⌜ ((N : Net) × (SinksReady N (branch .0) n (now own) (now sinks) × Kept N (sinksIn N k) (now slacks) (worst .0))) ⌝ }
     requires { ⌜ (suc k < n) × (n < length (now slacks)) ⌝ }
-    ensures { λ r. ⌜ ((N : Net) → Sorted N (branch .0) n (now (own .entry)) (now (sinks .entry)) → Kept N (sinksIn N k) (now (slacks .entry)) (worst .0) → Kept N (sinksIn N (suc k)) (now (slacks .exit)) (r .0)) ⌝ }
+    ensures { λ r. ⌜ ((N : Net) → SinksReady N (branch .0) n (now (own .entry)) (now (sinks .entry)) → Kept N (sinksIn N k) (now (slacks .entry)) (worst .0) → Kept N (sinksIn N (suc k)) (now (slacks .exit)) (r .0)) ⌝ }
 {
     let v = roomiest_sink(n, slacks, worst, branch);
     let next = worst_if_split(slacks, worst, branch, v);
@@ -98,7 +105,10 @@ fn next_worst(
 }
 
 // What stands for the slack of a sink that is not in: below every slack.
-const ABSENT: i64 = -1_050_000_000_000;
+const ABSENT: i64 = -((REQUIRED_LIMIT
+    + WIRE_FACTOR_LIMIT * (4 * POSITION_LIMIT)
+    + (2 * SINK_LIMIT - 1) * BRANCH_LIMIT
+    + 1) as i64);
 
 // No sink is in.
 fn absent_all(slacks: &mut [i64], n: usize)
@@ -114,9 +124,9 @@ fn absent_all(slacks: &mut [i64], n: usize)
 
 // The worst slack when all sinks are in, in their order. `slacks` is room for the slacks.
 fn worst_of_all(n: usize, own: &[i64], sinks: &[usize], slacks: &mut [i64], branch: Time) -> Time
-    requires { ⌜ ((N : Net) × Sorted N (branch .0) n (now own) (now sinks)) ⌝ }
+    requires { ⌜ ((N : Net) × SinksReady N (branch .0) n (now own) (now sinks)) ⌝ }
     requires { ⌜ n < length (now slacks) ⌝ }
-    ensures { λ r. ⌜ ((N : Net) → Sorted N (branch .0) n (now (own .entry)) (now (sinks .entry)) → IsKraftMaximum (N .branch) (ownSlacks N) (r .0)) ⌝ }
+    ensures { λ r. ⌜ ((N : Net) → SinksReady N (branch .0) n (now (own .entry)) (now (sinks .entry)) → IsKraftMaximum (N .branch) (ownSlacks N) (r .0)) ⌝ }
 {
     absent_all(slacks, n);
     let first = sinks[0];

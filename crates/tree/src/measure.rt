@@ -1,23 +1,23 @@
 // The worst slack and the wire of a tree.
 ghost use mathlib.Core.Path.{_≡_};
-ghost use Prim.Native.Nat.{ℕ, _+_, _*_, _≤_, _<_};
+ghost use Prim.Native.Nat.{ℕ, _*_, _-_, _≤_, _<_};
 ghost use lib.ListN.{length, getD};
-ghost use mathlib.Core.List.{List};
 ghost use lib.Dec.{ltb};
-ghost use lib.IntN.{ℤ, pos, _+ℤ_};
-ghost use Rattle.quantities.specs.Reach.{Within, PointWithin, lengthReach, timeReach, factorReach};
+ghost use lib.IntN.{pos, _+ℤ_, _-ℤ_};
+ghost use Rattle.quantities.specs.Inner.Linear.{up};
+ghost use Rattle.quantities.specs.Ranges.{Within};
+ghost use Rattle.quantities.specs.Inner.Reach.{lengthReach};
 ghost use Rattle.tree.specs.declared.header.Header.{Header};
-ghost use Rattle.tree.specs.Net.{delay};
-ghost use Rattle.tree.specs.Measures.{pathDelay, oneIf, depth, slack, worstSlack, wireLength};
-ghost use Rattle.tree.specs.Limits.{positionLimit, wireFactorLimit};
-ghost use Rattle.tree.specs.Arrays.{pointAt, lengthAbove, netOf, treeOf, HoldsNet, HoldsTree};
-ghost use Rattle.tree.specs.Tallies.{slackAt, firstCounted, counted, leastSlack, edgeSum};
+ghost use Rattle.tree.specs.Measures.{oneIf, worstSlack, wireLength};
+ghost use Rattle.tree.specs.Limits.{branchLimit, requiredLimit};
+ghost use Rattle.tree.specs.Inner.DerivedLimits.{spendLimit};
+ghost use Rattle.tree.specs.Inner.Arrays.{pointAt, lengthAbove, netOf, treeOf, HoldsNet, HoldsTree, UnderRoot, RootDown};
+ghost use Rattle.tree.specs.Inner.Tallies.{slackAt, CostsInRange, costAbove, spentOn, firstCounted, counted, leastSlack, edgeSum};
 use crate::header::Header;
 use quantities::length::Length;
 use quantities::point::Point;
 use quantities::point::distance;
 use quantities::time::Time;
-use quantities::wire_factor::WireFactor;
 
 // The worst slack and the wire so far, as measuring goes from vertex to vertex.
 pub struct Tally {
@@ -33,14 +33,6 @@ pub fn point(xs: &[i64], ys: &[i64], v: usize) -> Point
     Point { x: xs[v], y: ys[v] }
 }
 
-// The delay of a straight wire.
-pub fn wire_delay(wire: WireFactor, p: Point, q: Point) -> Time
-    requires { ⌜ (wire .0 ≤ wireFactorLimit) × PointWithin positionLimit p × PointWithin positionLimit q ⌝ }
-    ensures { λ r. ⌜ r .0 ≡ pos (delay (wire .0) p q) ⌝ }
-{
-    wire.delay(distance(p, q))
-}
-
 // The length of the edge whose lower end is v.
 pub fn edge_length(n: usize, parents: &[usize], xs: &[i64], ys: &[i64], v: usize) -> Length
     requires { ⌜ HoldsTree n (now parents) (now xs) (now ys) × (1 ≤ v) × (v < 2 * n) ⌝ }
@@ -48,81 +40,6 @@ pub fn edge_length(n: usize, parents: &[usize], xs: &[i64], ys: &[i64], v: usize
 {
     let p = parents[v];
     distance(point(xs, ys, p), point(xs, ys, v))
-}
-
-// What the way from the root to a vertex costs: its delay, and the branch points on it.
-struct Way {
-    delay: Time,
-    depth: u64,
-}
-
-// 1 for a branch point, 0 for a sink.
-fn one_if_branch_point(n: usize, v: usize) -> u64
-    ensures { λ r. ⌜ r ≡ oneIf (ltb n v) ⌝ }
-{
-    if n < v { 1 } else { 0 }
-}
-
-// The way with the edge added whose lower end is v.
-fn add_edge(
-    way: Way,
-    wire: WireFactor,
-    n: usize,
-    parents: &[usize],
-    xs: &[i64],
-    ys: &[i64],
-    v: usize,
-) -> Way
-    requires { ⌜ HoldsTree n (now parents) (now xs) (now ys) × (wire .0 ≤ wireFactorLimit) × (1 ≤ v) × (v < 2 * n) × (Within timeReach (way .delay .0)) × (way .depth ≤ factorReach) ⌝ }
-    ensures { λ r. ⌜ (r .delay .0 ≡ way .delay .0 +ℤ pos (delay (wire .0) (pointAt (now (xs .entry)) (now (ys .entry)) (getD (now (parents .entry)) v 0)) (pointAt (now (xs .entry)) (now (ys .entry)) v))) × (r .depth ≡ way .depth + oneIf (ltb n v)) ⌝ }
-{
-    let edge = wire_delay(wire, point(xs, ys, parents[v]), point(xs, ys, v));
-    let delay = way.delay;
-    Way {
-        delay: delay.plus(edge),
-        depth: way.depth + one_if_branch_point(n, v),
-    }
-}
-
-// The delay of the way from the root to v and the branch points on it, edge by edge from v up.
-fn way_to(wire: WireFactor, n: usize, parents: &[usize], xs: &[i64], ys: &[i64], v: usize) -> Way
-    requires { ⌜ HoldsTree n (now parents) (now xs) (now ys) × (wire .0 ≤ wireFactorLimit) × (v < 2 * n) ⌝ }
-    ensures { λ r. ⌜ ((h : Header) (required : List ℤ) → h .wire .0 ≡ wire .0 → (r .delay .0 ≡ pos (pathDelay (netOf h n (now (xs .entry)) (now (ys .entry)) required) (treeOf n (now (parents .entry)) (now (xs .entry)) (now (ys .entry))) v)) × (r .depth ≡ depth (netOf h n (now (xs .entry)) (now (ys .entry)) required) (treeOf n (now (parents .entry)) (now (xs .entry)) (now (ys .entry))) v)) ⌝ }
-{
-    let mut way = Way {
-        delay: Time::of(0),
-        depth: 0,
-    };
-    let mut at = v;
-    let mut left = 2 * n - 1;
-    while at != 0 && 0 < left {
-        way = add_edge(way, wire, n, parents, xs, ys, at);
-        at = parents[at];
-        left -= 1;
-    }
-    way
-}
-
-// The slack of sink s.
-pub fn sink_slack(
-    h: Header,
-    n: usize,
-    parents: &[usize],
-    xs: &[i64],
-    ys: &[i64],
-    required: &[i64],
-    s: usize,
-) -> Time
-    requires { ⌜ HoldsNet h n (now xs) (now ys) (now required) × HoldsTree n (now parents) (now xs) (now ys) × (1 ≤ s) × (s ≤ n) ⌝ }
-    ensures { λ r. ⌜ r .0 ≡ slack (netOf h n (now (xs .entry)) (now (ys .entry)) (now (required .entry))) (treeOf n (now (parents .entry)) (now (xs .entry)) (now (ys .entry))) s ⌝ }
-{
-    let wire = h.wire;
-    let way = way_to(wire, n, parents, xs, ys, s);
-    let delay = way.delay;
-    let branch = h.branch;
-    Time::of(required[s])
-        .minus(delay)
-        .minus(branch.times(way.depth))
 }
 
 // The tally of vertex 1, a sink.
@@ -190,27 +107,70 @@ pub fn measure(n: usize, parents: &[usize], xs: &[i64], ys: &[i64], slacks: &[i6
     tally
 }
 
-// The slack of each sink, at the place of its number.
-fn sink_slacks(
+// c for a branch point, nothing for a sink.
+fn branch_cost(h: Header, n: usize, v: usize) -> Time
+    requires { ⌜ CostsInRange h ⌝ }
+    ensures cost { λ r. ⌜ r .0 ≡ pos (up (h .branch .0) * oneIf (ltb n v)) ⌝ }
+    ensures range { λ r. ⌜ Within branchLimit (r .0) ⌝ }
+{
+    let branch = h.branch;
+    if n < v { branch } else { Time::of(0) }
+}
+
+// What is spent on the way to v: that of its parent, the edge between them, and c if v is a branch point.
+fn spent_at(
     h: Header,
     n: usize,
     parents: &[usize],
     xs: &[i64],
     ys: &[i64],
-    required: &[i64],
-    slacks: &mut [i64],
+    spent: &[i64],
+    v: usize,
+) -> Time
+    requires { ⌜ CostsInRange h × HoldsTree n (now parents) (now xs) (now ys) × (2 * n ≤ length (now spent)) × UnderRoot n v × Within spendLimit (getD (now spent) (getD (now parents) v 0) (pos 0)) ⌝ }
+    ensures { λ r. ⌜ r .0 ≡ getD (now (spent .entry)) (getD (now (parents .entry)) v 0) (pos 0) +ℤ pos (costAbove h n (now (parents .entry)) (now (xs .entry)) (now (ys .entry)) v) ⌝ }
+{
+    let p = parents[v];
+    let edge = h.wire.delay(point(xs, ys, p), point(xs, ys, v));
+    let branch = branch_cost(h, n, v);
+    Time::of(spent[p]).plus(edge).plus(branch)
+}
+
+// What is spent on the way to each vertex, at the place of its number, in the order of `queue`: parents first.
+fn spend(
+    h: Header,
+    n: usize,
+    parents: &[usize],
+    xs: &[i64],
+    ys: &[i64],
+    queue: &[usize],
+    spent: &mut [i64],
 )
-    requires { ⌜ HoldsNet h n (now xs) (now ys) (now required) × HoldsTree n (now parents) (now xs) (now ys) × (n < length (now slacks)) ⌝ }
-    ensures { λ r. ⌜ ((s : ℕ) → 1 ≤ s → s ≤ n → slackAt (now (slacks .exit)) s ≡ slack (netOf h n (now (xs .entry)) (now (ys .entry)) (now (required .entry))) (treeOf n (now (parents .entry)) (now (xs .entry)) (now (ys .entry))) s) ⌝ }
+    requires { ⌜ CostsInRange h × HoldsTree n (now parents) (now xs) (now ys) × RootDown n (now parents) (now queue) × (2 * n ≤ length (now spent)) ⌝ }
+    ensures { λ r. ⌜ ((v : ℕ) → 1 ≤ v → v < 2 * n → getD (now (spent .exit)) v (pos 0) ≡ pos (spentOn h n (now (parents .entry)) (now (xs .entry)) (now (ys .entry)) (2 * n - 1) v)) ⌝ }
+{
+    spent[0] = 0;
+    let mut i = 0;
+    while i < 2 * n - 1 {
+        let v = queue[i];
+        spent[v] = spent_at(h, n, parents, xs, ys, spent, v).value();
+        i += 1;
+    }
+}
+
+// The slack of each sink, in the place of what is spent on the way to it.
+fn sink_slacks(n: usize, required: &[i64], slacks: &mut [i64])
+    requires { ⌜ (n < length (now required)) × (n < length (now slacks)) × ((s : ℕ) → 1 ≤ s → s ≤ n → Within requiredLimit (slackAt (now required) s) × Within spendLimit (slackAt (now slacks) s)) ⌝ }
+    ensures { λ r. ⌜ ((s : ℕ) → 1 ≤ s → s ≤ n → slackAt (now (slacks .exit)) s ≡ slackAt (now (required .entry)) s -ℤ slackAt (now (slacks .entry)) s) ⌝ }
 {
     let mut s = 1;
     while s <= n {
-        slacks[s] = sink_slack(h, n, parents, xs, ys, required, s).value();
+        slacks[s] = Time::of(required[s]).minus(Time::of(slacks[s])).value();
         s += 1;
     }
 }
 
-// The worst slack and the wire of a tree, legal or not. `slacks` is room for the slacks of the sinks.
+// The worst slack and the wire of a tree whose vertices stand in `queue` from the root down. `slacks` is room for what is spent and for the slacks.
 pub fn measure_tree(
     h: Header,
     n: usize,
@@ -218,12 +178,14 @@ pub fn measure_tree(
     xs: &[i64],
     ys: &[i64],
     required: &[i64],
+    queue: &[usize],
     slacks: &mut [i64],
 ) -> Tally
-    requires { ⌜ HoldsNet h n (now xs) (now ys) (now required) × HoldsTree n (now parents) (now xs) (now ys) × (n < length (now slacks)) ⌝ }
+    requires { ⌜ HoldsNet h n (now xs) (now ys) (now required) × HoldsTree n (now parents) (now xs) (now ys) × RootDown n (now parents) (now queue) × (2 * n ≤ length (now slacks)) ⌝ }
     ensures worst { λ r. ⌜ r .worst .0 ≡ worstSlack (netOf h n (now (xs .entry)) (now (ys .entry)) (now (required .entry))) (treeOf n (now (parents .entry)) (now (xs .entry)) (now (ys .entry))) ⌝ }
     ensures wire { λ r. ⌜ r .wire .0 ≡ wireLength (netOf h n (now (xs .entry)) (now (ys .entry)) (now (required .entry))) (treeOf n (now (parents .entry)) (now (xs .entry)) (now (ys .entry))) ⌝ }
 {
-    sink_slacks(h, n, parents, xs, ys, required, slacks);
+    spend(h, n, parents, xs, ys, queue, slacks);
+    sink_slacks(n, required, slacks);
     measure(n, parents, xs, ys, slacks)
 }

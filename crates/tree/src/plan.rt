@@ -4,7 +4,7 @@ ghost use Prim.Native.Nat.{ℕ, _*_, _≤_, _<_};
 ghost use lib.ListN.{length};
 ghost use Rattle.tree.specs.Measures.{worstSlack, wireLength};
 ghost use Rattle.tree.specs.Settling.{plan};
-ghost use Rattle.tree.specs.Arrays.{pointAt, netOf, treeOf, HoldsNet};
+ghost use Rattle.tree.specs.Inner.Arrays.{pointAt, netOf, treeOf, HoldsNet};
 use crate::header::Header;
 use crate::insert::insert_all;
 use crate::measure::Tally;

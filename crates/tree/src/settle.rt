@@ -8,7 +8,7 @@ ghost use lib.IntN.{ℤ};
 ghost use Rattle.tree.specs.declared.header.Header.{Header};
 ghost use Rattle.tree.specs.Tree.{Legal};
 ghost use Rattle.tree.specs.Settling.{children, settledTree};
-ghost use Rattle.tree.specs.Arrays.{pointAt, parentsOf, netOf, treeOf, medianAt, Parents, LeavesUp, Below};
+ghost use Rattle.tree.specs.Inner.Arrays.{pointAt, parentsOf, netOf, treeOf, medianAt, Parents, LeavesUp, UnderRoot};
 use crate::measure::point;
 use crate::places::clear;
 use quantities::point::median_point;
@@ -80,7 +80,7 @@ pub fn settle(
     ys: &mut [i64],
     kids: &mut [usize],
 )
-    requires { ⌜ Parents n (now parents) × Legal n (parentsOf n (now parents)) × LeavesUp (Below n) (2 * n - 1) (now parents) (now upward) ⌝ }
+    requires { ⌜ Parents n (now parents) × Legal n (parentsOf n (now parents)) × LeavesUp (UnderRoot n) (2 * n - 1) (now parents) (now upward) ⌝ }
     requires { ⌜ (2 * n ≤ length (now upward)) × (2 * n ≤ length (now xs)) × (2 * n ≤ length (now ys)) × (4 * n ≤ length (now kids)) ⌝ }
     ensures tree { λ r. ⌜ ((h : Header) (required : List ℤ) → treeOf n (now (parents .entry)) (now (xs .exit)) (now (ys .exit)) ≡ settledTree (netOf h n (now (xs .entry)) (now (ys .entry)) required) (parentsOf n (now (parents .entry)))) ⌝ }
     ensures kept { λ r. ⌜ ((v : ℕ) → v ≤ n → pointAt (now (xs .exit)) (now (ys .exit)) v ≡ pointAt (now (xs .entry)) (now (ys .entry)) v) ⌝ }

@@ -4,7 +4,7 @@ ghost use mathlib.Core.Path.{_≡_};
 ghost use mathlib.Core.List.{List};
 ghost use Prim.Native.Nat.{ℕ, _≤_, _<_};
 ghost use lib.ListN.{length, getD, set};
-ghost use Rattle.tree.specs.Arrays.{Chained};
+ghost use Rattle.tree.specs.Inner.Arrays.{Chained};
 
 // Puts s and b in right before u.
 pub fn put_before(below: &mut [usize], u: usize, s: usize, b: usize)

@@ -6,19 +6,19 @@ use native.Mathlib.Omega.{arith}
 use native.Mathlib.Decide.{decLe}
 use lib.ListN.{length, getD}
 use lib.IntN.{ℤ, pos}
-use Rattle.quantities.specs.Reach.{PointWithin}
+use Rattle.quantities.specs.Ranges.{PointWithin}
 use Rattle.tree.specs.declared.header.Header.{Header}
 use Rattle.tree.specs.Net.{Sink}
 use Rattle.tree.specs.Limits.{positionLimit, sinkLimit, InRange}
-use Rattle.tree.specs.Arrays.{pointAt, netOf, treeOf, HoldsNet, HoldsTree}
-use Rattle.tree.proofs.Laws.Tables.{table-at, table-cong}
-use Rattle.tree.proofs.Laws.Arrays.{size-is, sink-at, parents-at, parents-length}
-use Rattle.tree.proofs.Laws.PlanArrays.{some-few}
+use Rattle.tree.specs.Inner.Arrays.{pointAt, netOf, treeOf, HoldsNet, HoldsTree}
+use Rattle.tree.proofs.Laws.Lists.Tables.{table-at, table-cong}
+use Rattle.tree.proofs.Laws.Arrays.NetAndTree.{size-is, sink-at, parents-at, parents-length}
+use Rattle.tree.proofs.Laws.Arrays.PlanArrays.{some-few}
 use Rattle.formats.specs.Reading.{value}
 use Rattle.formats.specs.NetText.{readNet}
 use Rattle.formats.specs.ListingText.{ListingInRange, readListing}
-use Rattle.formats.proofs.Laws.NetTexts.{net-sound}
-use Rattle.formats.proofs.Laws.ListingTexts.{listing-sound}
+use Rattle.formats.proofs.Laws.Nets.NetTexts.{net-sound}
+use Rattle.formats.proofs.Laws.Listings.ListingTexts.{listing-sound}
 
 module _ (h : Header) (n : ℕ) (xs ys rs : List ℤ) where
   pub read-net-holds : (text : List ℕ) → readNet text ≡ value (netOf h n xs ys rs) → n < length xs → n < length ys → n < length rs → HoldsNet h n xs ys rs
@@ -29,7 +29,7 @@ module _ (h : Header) (n : ℕ) (xs ys rs : List ℤ) where
 
       near : (v : ℕ) → v < suc n → PointWithin positionLimit (pointAt xs ys v)
       near zero l = in-range .root
-      near (suc i) l = subst (PointWithin positionLimit) (sink-at h n xs ys rs (suc i) (omega arith)) (in-range .at (suc i) (omega arith) (omega (arith, size-is h n xs ys rs)))
+      near (suc i) l = subst (PointWithin positionLimit) (sink-at h n xs ys rs (suc i) (omega arith)) (in-range .points (suc i) (omega arith) (omega (arith, size-is h n xs ys rs)))
 
   -- ---- the root and the sinks stand as before
 
@@ -40,11 +40,11 @@ module _ (h : Header) (n : ℕ) (xs ys rs : List ℤ) where
       branch = netOf h n xs ys rs .branch;
       wire = netOf h n xs ys rs .wire;
       need = netOf h n xs ys rs .need;
-      sinks = table-cong (sinkOf xs′ ys′) (sinkOf xs ys) 1 n (λ s p q. ap (λ z. record { at = z; required = getD rs s (pos 0) }) (kept s (omega arith))) i;
+      sinks = table-cong (sinkOf xs′ ys′) (sinkOf xs ys) 1 n (λ s p q. ap (λ z. record { point = z; required = getD rs s (pos 0) }) (kept s (omega arith))) i;
     }
       where
         sinkOf : List ℤ → List ℤ → ℕ → Sink
-        sinkOf xs ys s = record { at = pointAt xs ys s; required = getD rs s (pos 0) }
+        sinkOf xs ys s = record { point = pointAt xs ys s; required = getD rs s (pos 0) }
 
     module _ (held : HoldsNet h n xs ys rs) (xs-long : 2 * n ≤ length xs′) (ys-long : 2 * n ≤ length ys′) where
       pub kept-holds : HoldsNet h n xs′ ys′ rs

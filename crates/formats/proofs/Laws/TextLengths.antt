@@ -5,22 +5,46 @@ use mathlib.Core.Logic.{_⊎_}
 use mathlib.Core.List.{List, [], _∷_}
 use lib.ListN.{length, getD, length-append}
 use lib.IntN.{ℤ, pos}
+use mathlib.Core.Bool.{true, false}
+use lib.Dec.{ltb}
 use native.Mathlib.Omega.{arith}
-use Rattle.quantities.specs.Linear.{abs-le}
-use Rattle.quantities.specs.Reach.{Within}
+use Rattle.quantities.specs.Inner.Linear.{abs-le}
+use Rattle.quantities.specs.Ranges.{Within}
 use Rattle.tree.specs.Lists.{range}
 use Rattle.tree.specs.Net.{Net, Sink, size}
 use Rattle.tree.specs.Tree.{parentOf}
-use Rattle.tree.specs.Limits.{positionLimit, needLimit, requiredLimit, slackLimit, InRange}
+use Rattle.tree.specs.Limits.{positionLimit, branchLimit, wireFactorLimit, needLimit, sinkLimit, requiredLimit, slackLimit, wireLimit, InRange}
+use Rattle.formats.specs.Limits.{netLengthLimit, pinLimit, listingLengthLimit}
 use Rattle.formats.specs.Decimal.{show}
-use Rattle.formats.specs.NetText.{netLengthLimit, pinLimit, sinksText, netLines, netText, pinDistance, InFormat}
-use Rattle.formats.specs.ListingText.{listingLengthLimit, Listing, nodePoint, leafText, nodeText, linesText, listingText, ListingInRange, ListingInFormat}
-use Rattle.formats.proofs.Laws.Decimal.{showNat-length, show-length}
-use Rattle.formats.proofs.Laws.Elements.{All}
-use Rattle.formats.proofs.Laws.SinkTexts.{SinkIn}
-use Rattle.formats.proofs.Laws.NetTexts.{sinks-in}
+use Rattle.formats.specs.NetText.{sinkKey, sinksText, netLines, netText, pinDistance, InFormat}
+use Rattle.formats.specs.ListingText.{Listing, leafKey, nodeKey, nodePoint, leafText, nodeText, linesText, listingText, ListingInRange, ListingInFormat}
+use Rattle.formats.proofs.Laws.Numbers.Decimal.{showNat-length, show-length}
+use Rattle.formats.proofs.Laws.Lines.Elements.{All}
+use Rattle.formats.proofs.Laws.Nets.SinkTexts.{SinkIn}
+use Rattle.formats.proofs.Laws.Nets.NetTexts.{sinks-in}
 
 -- ---- numbers
+
+-- the digits of m: the least k from 1 on, and at most 20, with m below 10^k
+abbrev widthFrom : ℕ → ℕ → ℕ → ℕ
+widthFrom zero k m = k
+widthFrom (suc f) k m = elim (ltb m (10 ^ k)) [ true ↦ k | false ↦ widthFrom f (suc k) m ]
+
+abbrev width : ℕ → ℕ
+width m = widthFrom 20 1 m
+
+-- the most bytes of a coordinate, and of a line of each kind
+abbrev positionWidth : ℕ
+positionWidth = suc (width positionLimit)
+
+abbrev sinkWidth : ℕ
+sinkWidth = length sinkKey + (2 * positionWidth + suc (width requiredLimit) + 3)
+
+abbrev leafWidth : ℕ
+leafWidth = length leafKey + (width sinkLimit + width (2 * sinkLimit) + 2)
+
+abbrev nodeWidth : ℕ
+nodeWidth = length nodeKey + (2 * width (2 * sinkLimit) + 2 * positionWidth + 4)
 
 -- a natural number below 10^k
 plain : (n k : ℕ) → n < 10 ^ k → 1 ≤ k → length (show (pos n)) ≤ k
@@ -31,16 +55,16 @@ plain n k h p = showNat-length n k h p
 ranged : (m k : ℕ) (z : ℤ) → Within m z → m < 10 ^ k → 1 ≤ k → length (show z) ≤ k + 1
 ranged m k z h b p = let a = abs-le z m (h .0) (h .1) in show-length z k (omega arith) p
 
-position : (z : ℤ) → Within positionLimit z → length (show z) ≤ 7
-position z h = ranged positionLimit 6 z h (omega arith) (omega arith)
+position : (z : ℤ) → Within positionLimit z → length (show z) ≤ positionWidth
+position z h = ranged positionLimit (width positionLimit) z h (omega arith) (omega arith)
 
 -- ---- a net
 
-sinks-short : (l : List Sink) → All SinkIn l → length (sinksText l) ≤ length l * 36
+sinks-short : (l : List Sink) → All SinkIn l → length (sinksText l) ≤ length l * sinkWidth
 sinks-short [] h = omega arith
 sinks-short (s ∷ l) h =
     simp length-append
-    (omega (arith, position (s .at .x) (h .0 .0 .0), position (s .at .y) (h .0 .0 .1), ranged requiredLimit 13 (s .required) (h .0 .1) (omega arith) (omega arith), sinks-short l (h .1)))
+    (omega (arith, position (s .point .x) (h .0 .0 .0), position (s .point .y) (h .0 .0 .1), ranged requiredLimit (width requiredLimit) (s .required) (h .0 .1) (omega arith) (omega arith), sinks-short l (h .1)))
 
 pub net-short : (N : Net) → InRange N → length (netText N) ≤ netLengthLimit
 unfolding netLines
@@ -50,10 +74,10 @@ net-short N h =
       arith,
       position (N .root .x) (h .root .0),
       position (N .root .y) (h .root .1),
-      plain (N .branch) 7 (omega arith) (omega arith),
-      plain (N .wire) 5 (omega arith) (omega arith),
-      ranged needLimit 13 (N .need) (h .need) (omega arith) (omega arith),
-      plain (size N) 3 (omega arith) (omega arith),
+      plain (N .branch) (width branchLimit) (omega (arith, h .branch)) (omega arith),
+      plain (N .wire .0) (width wireFactorLimit) (omega (arith, h .wire)) (omega arith),
+      ranged needLimit (width needLimit) (N .need) (h .need) (omega arith) (omega arith),
+      plain (size N) (width sinkLimit) (omega (arith, h .sinks)) (omega arith),
       sinks-short (N .sinks) (sinks-in N h),
     ))
 
@@ -69,40 +93,37 @@ module _ (n : ℕ) (G : Listing) (h : ListingInRange n G) where
   parent-low zero p q = absurd (omega arith)
   parent-low (suc i) p q = h .parents i (omega (arith, h .parents-all))
 
-  leaf-short : (k : ℕ) → 1 ≤ k → k < 1 + n → length (leafText (G .tree .parents) k) ≤ 14
+  leaf-short : (k : ℕ) → 1 ≤ k → k < 1 + n → length (leafText (G .tree .parents) k) ≤ leafWidth
   leaf-short k p q =
       let w : parentOf (G .tree .parents) k < 2 * n = parent-low k p (omega arith) in
-      simp length-append (omega (arith, plain k 3 (omega arith) (omega arith), plain (parentOf (G .tree .parents) k) 4 (omega arith) (omega arith)))
+      simp length-append (omega (arith, plain k (width sinkLimit) (omega (arith, h .sinks)) (omega arith), plain (parentOf (G .tree .parents) k) (width (2 * sinkLimit)) (omega (arith, h .sinks)) (omega arith)))
 
-  node-short : (k : ℕ) → suc n ≤ k → k < suc n + (n - 1) → length (nodeText n (G .tree) k) ≤ 31
+  node-short : (k : ℕ) → suc n ≤ k → k < suc n + (n - 1) → length (nodeText n (G .tree) k) ≤ nodeWidth
   node-short k p q =
       let w : parentOf (G .tree .parents) k < 2 * n = parent-low k (omega arith) (omega arith) in
       let c = h .points (k - suc n) (omega (arith, h .points-all)) in
       simp length-append
       (omega (
         arith,
-        plain k 4 (omega arith) (omega arith),
-        plain (parentOf (G .tree .parents) k) 4 (omega arith) (omega arith),
+        plain k (width (2 * sinkLimit)) (omega (arith, h .sinks)) (omega arith),
+        plain (parentOf (G .tree .parents) k) (width (2 * sinkLimit)) (omega (arith, h .sinks)) (omega arith),
         position (nodePoint n (G .tree .points) k .x) (c .0),
         position (nodePoint n (G .tree .points) k .y) (c .1),
       ))
 
-  -- every listing of n sinks has room in so many bytes
-  pub listing-bound : length (listingText n G) ≤ 45 * n + 16
+  pub listing-short : length (listingText n G) ≤ listingLengthLimit
   unfolding listingText
-  listing-bound =
+  listing-short =
       simp length-append
       (omega (
         arith,
-        ranged slackLimit 13 (G .slack) (h .slack) (omega arith) (omega arith),
-        plain (G .wire) 10 (omega arith) (omega arith),
-        plain n 3 (omega arith) (omega arith),
-        lines-short (leafText (G .tree .parents)) 14 1 n leaf-short,
-        lines-short (nodeText n (G .tree)) 31 (suc n) (n - 1) node-short,
+        h .sinks,
+        ranged slackLimit (width slackLimit) (G .slack) (h .slack) (omega arith) (omega arith),
+        plain (G .wire) (width wireLimit) (omega (arith, h .wire)) (omega arith),
+        plain n (width sinkLimit) (omega (arith, h .sinks)) (omega arith),
+        lines-short (leafText (G .tree .parents)) leafWidth 1 n leaf-short,
+        lines-short (nodeText n (G .tree)) nodeWidth (suc n) (n - 1) node-short,
       ))
-
-  pub listing-short : length (listingText n G) ≤ listingLengthLimit
-  listing-short = omega (arith, listing-bound, h .sinks)
 
 -- ---- so what is in range, and near enough, has a text in the format
 

@@ -11,8 +11,8 @@ use native.Mathlib.Nat.{add-zero}
 use Rattle.formats.specs.Decimal.{show, isDigit, spelt, field, isNegative}
 use Rattle.formats.specs.Bytes.{endByte, comma}
 use Rattle.formats.specs.Line.{lineText}
-use Rattle.formats.specs.Writing.{over, Puts, oneThen, twoThen}
-use Rattle.formats.proofs.Laws.Decimal.{field-complete}
+use Rattle.formats.specs.Inner.Writing.{over, Puts, oneThen, twoThen}
+use Rattle.formats.proofs.Laws.Numbers.Decimal.{field-complete}
 
 module _ (l : List ℕ) (at : ℕ) where
   front : (s : List ℕ) → at ≤ length l → length (take at l ++ s) ≡ at + length s

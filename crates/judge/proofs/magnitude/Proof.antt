@@ -1,7 +1,8 @@
+-- The magnitude of any number, the least one too: below 0 it is one more than that of z + 1, which fits. No loop.
 use native.Mathlib.Omega.{arith}
 use borrow.Author.Needs.{needs}
 use lib.IntN.{pos, _+ℤ_}
-use Rattle.quantities.specs.Linear.{whole, +is, -is, natAbs-is, sfits-up, sfits-dn, back, back-abs, rd}
+use Rattle.quantities.specs.Inner.Linear.{whole, +is, -is, natAbs-is, sfits-up, sfits-dn, back, back-abs, rd}
 use Rattle.judge.proofs.magnitude.Statement.{statement}
 use Rattle.judge.proofs.magnitude.Tie as tie
 

@@ -1,4 +1,4 @@
--- The listing is written only where the output has that many bytes, so the slice is within it.
+-- The listing is written only where the output has that many bytes, so the slice is within it. No loop.
 use native.Mathlib.Omega.{arith}
 use borrow.Author.Needs.{needs}
 use lib.ListN.{length-take}

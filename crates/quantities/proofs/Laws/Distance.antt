@@ -6,8 +6,8 @@ use lib.IntN.{ℤ, pos, _-ℤ_}
 use lib.Signed.{_≤ℤ_}
 use Rattle.quantities.specs.declared.point.Point.{Point}
 use Rattle.quantities.specs.Distance.{span, distance}
-use Rattle.quantities.specs.Reach.{Within, PointWithin}
-use Rattle.quantities.specs.Linear.{up, dn, whole, -is, natAbs-is, neg-up, neg-dn}
+use Rattle.quantities.specs.Ranges.{Within, PointWithin}
+use Rattle.quantities.specs.Inner.Linear.{up, dn, whole, -is, natAbs-is, neg-up, neg-dn}
 
 -- by the parts, with ℕ's differences
 pub span-is : (a b : ℤ) → span a b ≡ ((up a + dn b) - (up b + dn a)) + ((up b + dn a) - (up a + dn b))
@@ -21,13 +21,13 @@ span-le {a} {b} h = omega (arith, whole, span-is a b)
 pub span-ge : {a b : ℤ} → b ≤ℤ a → span a b + (up b + dn a) ≡ up a + dn b
 span-ge {a} {b} h = omega (arith, whole, span-is a b)
 
-pub span-self : (a : ℤ) → span a a ≡ 0
+span-self : (a : ℤ) → span a a ≡ 0
 span-self a = omega (arith, span-is a a)
 
-pub span-symmetric : (a b : ℤ) → span a b ≡ span b a
+span-symmetric : (a b : ℤ) → span a b ≡ span b a
 span-symmetric a b = omega (arith, span-is a b, span-is b a)
 
-pub span-triangle : (a b c : ℤ) → span a c ≤ span a b + span b c
+span-triangle : (a b c : ℤ) → span a c ≤ span a b + span b c
 span-triangle a b c = omega (arith, span-is a b, span-is b c, span-is a c)
 
 pub span-within : (k : ℕ) (a b : ℤ) → Within k a → Within k b → span a b ≤ 2 * k

@@ -6,12 +6,12 @@ use native.Mathlib.Omega.{arith}
 use lib.IntN.{ℤ}
 use lib.Signed.{_≤ℤ_}
 use Rattle.quantities.specs.declared.point.Point.{Point}
-use Rattle.quantities.specs.Order.{minℤ, maxℤ}
+use Rattle.quantities.specs.MinMax.{minℤ, maxℤ}
 use Rattle.quantities.specs.Distance.{span, distance}
 use Rattle.quantities.specs.Median.{median, medianPoint}
-use Rattle.quantities.specs.Box.{InBox}
-use Rattle.quantities.specs.Linear.{up, dn, whole}
-use Rattle.quantities.proofs.Laws.Order.{min-is, max-is, total}
+use Rattle.quantities.specs.Inner.Box.{InBox}
+use Rattle.quantities.specs.Inner.Linear.{up, dn, whole}
+use Rattle.quantities.proofs.Laws.MinMax.{min-is, max-is, total}
 use Rattle.quantities.proofs.Laws.Distance.{span-le, span-ge}
 
 -- m is the median of a, b and c, by the parts
@@ -37,7 +37,7 @@ median-is a b c = record {
 }
 
 -- the median lies between the first two
-pub median-between : (a b c : ℤ) → ((a ≤ℤ median a b c) × (median a b c ≤ℤ b)) ⊎ ((b ≤ℤ median a b c) × (median a b c ≤ℤ a))
+median-between : (a b c : ℤ) → ((a ≤ℤ median a b c) × (median a b c ≤ℤ b)) ⊎ ((b ≤ℤ median a b c) × (median a b c ≤ℤ a))
 median-between a b c =
     ⊎-elim
     (λ h. inl (omega (arith, whole, median-is a b c)))
@@ -45,11 +45,11 @@ median-between a b c =
     (total a b)
 
 -- the median lies in every range that the three lie in
-pub median-in-range : (low high a b c : ℤ) → (low ≤ℤ a) × (a ≤ℤ high) → (low ≤ℤ b) × (b ≤ℤ high) → (low ≤ℤ c) × (c ≤ℤ high) → (low ≤ℤ median a b c) × (median a b c ≤ℤ high)
+median-in-range : (low high a b c : ℤ) → (low ≤ℤ a) × (a ≤ℤ high) → (low ≤ℤ b) × (b ≤ℤ high) → (low ≤ℤ c) × (c ≤ℤ high) → (low ≤ℤ median a b c) × (median a b c ≤ℤ high)
 median-in-range low high a b c f g h = omega (arith, whole, median-is a b c)
 
 -- |a - m| + |m - b| = |a - b| for the median m of a, b and a third
-pub span-through-median : (a b c : ℤ) → span a (median a b c) + span (median a b c) b ≡ span a b
+span-through-median : (a b c : ℤ) → span a (median a b c) + span (median a b c) b ≡ span a b
 span-through-median a b c =
     ⊎-elim
     (λ h. let k : a ≤ℤ b = omega (arith, whole) in omega (arith, span-le (h .0), span-le (h .1), span-le k))
@@ -70,7 +70,7 @@ unfolding distance medianPoint
 distance-through-median p q r = omega (arith, span-through-median (p .x) (q .x) (r .x), span-through-median (p .y) (q .y) (r .y))
 
 -- the order of the last two does not matter: in each order of the three both medians are the middle one
-pub median-swap : (a b c : ℤ) → median a b c ≡ median a c b
+median-swap : (a b c : ℤ) → median a b c ≡ median a c b
 median-swap a b c = go (total a b) (total b c) (total a c)
   where
     same : (m : ℤ) → median a b c ≡ m → median a c b ≡ m → median a b c ≡ median a c b

@@ -1,7 +1,10 @@
-use mathlib.Core.Path.{_∙_}
+-- Each figure goes out through its reference, as the answer has it. No loop.
+use mathlib.Core.Path.{sym, ap, _∙_}
 use mir.Facts.{toZ-ofZ}
+use lib.IntN.{pos}
+use Rattle.quantities.specs.Inner.Linear.{fit}
+use Rattle.operations.specs.Answers.{judgeFigures}
 use borrow.Author.Needs.{needs}
-use Rattle.quantities.specs.Linear.{fit}
 use Rattle.repeater_tree.proofs.repeater_tree_judge.Statement.{statement}
 use Rattle.repeater_tree.proofs.repeater_tree_judge.Tie as tie
 
@@ -20,8 +23,11 @@ value-requires-2 c κs = search needs
 value-requires-3 : tie.Need-value-requires-3
 value-requires-3 c κs = search needs
 
-enum-known-number : tie.Need-enum-known-number
-enum-known-number c = search needs
+enum-known-refusal : tie.Need-enum-known-refusal
+enum-known-refusal c = search needs
+
+tell-requires : tie.Need-tell-requires
+tell-requires c κs = search needs
 
 returns : tie.Need-returns
 returns c =
@@ -36,10 +42,13 @@ returns c =
       wire = wire .ensures i;
       best = (toZ-ofZ (fit (best .result) (best .ok)) ∙ best .ensures) i;
     })
-    ∙ (rw (c .before .before .before .before .worst .given .1) at (c .before .before .before .before .before .before .judge .ensures))
+    ∙ ap judgeFigures (sym (c .before .before .before .before .worst .given .1) ∙ c .before .before .before .before .before .before .judge .ensures)
 
 returns-2 : tie.Need-returns-2
-returns-2 c = rw (c .before .number .given .1) at (c .before .before .before .judge .ensures)
+returns-2 c =
+    let t = c .tell .ensures in
+    (λ i. record { number = t i .number; text = t i .text; line = t i .line; slack = pos 0; wire = 0; best = pos 0 })
+    ∙ ap judgeFigures (sym (c .before .before .refusal .given .1) ∙ c .before .before .before .before .judge .ensures)
 
 pub repeater-tree-judge-spec : {M : Type 1} → statement M
 repeater-tree-judge-spec =
@@ -50,6 +59,7 @@ repeater-tree-judge-spec =
     value-requires
     value-requires-2
     value-requires-3
-    enum-known-number
+    enum-known-refusal
+    tell-requires
     returns
     returns-2)

@@ -1,7 +1,10 @@
-use mathlib.Core.Path.{_∙_}
+-- Each figure goes out through its reference, as the answer has it. No loop.
+use mathlib.Core.Path.{sym, ap, _∙_}
 use mir.Facts.{toZ-ofZ}
+use lib.IntN.{pos}
+use Rattle.quantities.specs.Inner.Linear.{fit}
+use Rattle.operations.specs.Answers.{planFigures}
 use borrow.Author.Needs.{needs}
-use Rattle.quantities.specs.Linear.{fit}
 use Rattle.repeater_tree.proofs.repeater_tree_plan.Statement.{statement}
 use Rattle.repeater_tree.proofs.repeater_tree_plan.Tie as tie
 
@@ -17,8 +20,11 @@ value-requires c κs = search needs
 value-requires-2 : tie.Need-value-requires-2
 value-requires-2 c κs = search needs
 
-enum-known-number : tie.Need-enum-known-number
-enum-known-number c = search needs
+enum-known-refusal : tie.Need-enum-known-refusal
+enum-known-refusal c = search needs
+
+tell-requires : tie.Need-tell-requires
+tell-requires c κs = search needs
 
 same-length : tie.Need-same-length
 same-length c = search needs
@@ -36,7 +42,7 @@ returns c =
         wire = wire .ensures i;
         bytes = c .before .before .before .worst .given .0 .1 .1 .0;
       })
-          ∙ (rw (c .before .before .before .worst .given .1) at (says .0)),
+          ∙ ap planFigures (sym (c .before .before .before .worst .given .1) ∙ says .0),
       says .1,
     )
 
@@ -45,8 +51,12 @@ same-length-2 c = search needs
 
 returns-2 : tie.Need-returns-2
 returns-2 c =
-    let says = c .before .before .before .before .before .plan .ensures in
-    (rw (c .before .number .given .1) at (says .0), says .1)
+    let t = c .tell .ensures in
+    let says = c .before .before .before .before .before .before .plan .ensures in (
+      (λ i. record { number = t i .number; text = t i .text; line = t i .line; slack = pos 0; wire = 0; bytes = 0 })
+          ∙ ap planFigures (sym (c .before .before .refusal .given .1) ∙ says .0),
+      says .1,
+    )
 
 pub repeater-tree-plan-spec : {M : Type 1} → statement M
 repeater-tree-plan-spec =
@@ -56,7 +66,8 @@ repeater-tree-plan-spec =
     enum-known-worst
     value-requires
     value-requires-2
-    enum-known-number
+    enum-known-refusal
+    tell-requires
     same-length
     returns
     same-length-2

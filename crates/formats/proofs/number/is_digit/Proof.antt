@@ -1,3 +1,4 @@
+-- Whether a byte is a digit: the two tests are those of the definition. No loop.
 use borrow.Author.Tests.{le-leb, lt-leb}
 use Rattle.formats.proofs.number.is_digit.Statement.{statement}
 use Rattle.formats.proofs.number.is_digit.Tie as tie

@@ -1,5 +1,6 @@
-use Rattle.formats.proofs.Laws.Due.{compared-negative}
-use Rattle.formats.proofs.Laws.DueFor.{compared-held}
+-- A number is k where it has no sign and the magnitude k; one at the cap is not, since k is below it. No loop.
+use Rattle.formats.proofs.Laws.Lines.Due.{compared-negative}
+use Rattle.formats.proofs.Laws.Listings.DueFor.{compared-held}
 use Rattle.formats.proofs.read_listing.is_exactly.Statement.{statement}
 use Rattle.formats.proofs.read_listing.is_exactly.Tie as tie
 

@@ -1,3 +1,4 @@
+-- Whether a vertex is a sink: the two tests are those of the definition. No loop.
 use borrow.Author.Tests.{le-leb, lt-leb}
 use Rattle.formats.proofs.read_listing.is_sink.Statement.{statement}
 use Rattle.formats.proofs.read_listing.is_sink.Tie as tie

@@ -1,25 +1,25 @@
-use Prim.Native.Nat.{ℕ, _+_, _*_, _-_}
-use mathlib.Core.Path.{_≡_, sym, ap, _∙_}
-use mathlib.Core.Bool.{true}
+-- The line of leaf k is read, or refused by 2, 3 or 8: by its spelling, its number, its parent's range, and whether that is a sink. No loop.
+use Prim.Native.Nat.{ℕ, _*_, _-_}
+use mathlib.Core.Path.{_≡_, sym, ap, subst, _∙_}
+use mathlib.Core.Bool.{Bool, true, false}
 use mathlib.Core.Logic.{inl}
-use mathlib.Core.List.{List, [], _∷_}
+use mathlib.Core.List.{List, []}
 use native.Mathlib.Omega.{arith}
 use lib.ListN.{drop}
-use lib.IntN.{ℤ, natAbs}
+use lib.IntN.{pos}
 use denote.Ref.{now}
 use borrow.Author.Needs.{needs}
 use borrow.Author.Tests.{not-true, not-false}
 use Rattle.formats.specs.Line.{lineIn}
-use Rattle.formats.specs.Reading.{at, Outcome}
-use Rattle.formats.specs.ListingText.{Listing, leafKey, parentRange, noSink}
-use Rattle.formats.specs.Scanning.{lineAt}
+use Rattle.formats.specs.ListingText.{leafKey, parentRange}
+use Rattle.formats.specs.Inner.Scanning.{takenAt}
+use Rattle.formats.specs.Inner.Ranging.{Narrow, Tested}
 use Rattle.formats.specs.declared.scan.Numbers.{Numbers}
-use Rattle.formats.specs.declared.scan.Line.the-variants.{Spelt}
 use Rattle.formats.specs.declared.reader.Place.{Place}
-use Rattle.formats.specs.Ranging.{Tested}
-use Rattle.formats.proofs.Laws.Due.{value-abs, from-narrow, Compared, next-line, dueFor-wrong, dueFor-other, dueFor-out}
-use Rattle.formats.proofs.Laws.Taking.{wrong-line, right-line}
-use Rattle.formats.proofs.Laws.DueFor.{vertex-sink, vertex-in}
+use Rattle.formats.specs.declared.reader.Taken.the-variants.{AsDue}
+use Rattle.formats.proofs.Laws.Numbers.Ranges.{from-narrow}
+use Rattle.formats.proofs.Laws.Lines.Due.{value-abs, Compared}
+use Rattle.formats.proofs.Laws.Listings.DueFor.{tested-as, vertex-wrong, vertex-other, vertex-out, vertex-in}
 use Rattle.formats.proofs.read_listing.leaf_at.Statement.{statement}
 use Rattle.formats.proofs.read_listing.leaf_at.Tie as tie
 
@@ -47,95 +47,82 @@ enum-known-numbers c = search needs
 enum-told : tie.Need-enum-told
 enum-told c = search needs
 
--- what follows a line whose numbers are in range
-abbrev rest : ℕ → ℕ → (ℕ → List ℕ → Outcome Listing) → List ℤ → List ℕ → Outcome Listing
-rest l n next zs r = noSink n l (natAbs (at zs 0)) (next (natAbs (at zs 0)) r)
+not-due-requires : tie.Need-not-due-requires
+not-due-requires c κs = search needs
 
 returns : tie.Need-returns
-returns c = (
-  λ l next.
-      let b = c .before .before .before .before .before in
-      dueFor-wrong l leafKey (b .args .k) (parentRange (b .args .n) ∷ []) (now (b .args .text)) (b .args .here .at) (rest l (b .args .n) next)
-      (wrong-line leafKey 2 (now (b .args .text)) (b .args .here .at) (b .args .here .line) (sym (c .enum-told .given .1) ∙ c .before .before .read-line .ensures)),
-  tt,
-)
+returns c =
+    let b = c .before .before .before .before .before .before in
+    vertex-wrong leafKey [] (b .args .n) (b .args .k) (now (b .args .text)) (b .args .here .at) (b .args .here .line) (b .pre .1)
+    (sym (c .before .enum-told .given .1) ∙ c .before .before .before .read-line .ensures)
+    (c .not-due .result) (c .not-due .ensures)
 
--- the line, and the number of the next one
-taken : (t : tie.After-known-told)
-    → (Spelt (numbers t) (end t .at) ≡ lineAt (start t .args .here .at) (lineIn leafKey 2 (drop (start t .args .here .at) (text t)))) × (end t .line ≡ start t .args .here .line + 1)
-taken t =
-    right-line leafKey 2 (text t) (start t .args .here .at) (start t .args .here .line) (numbers t) (end t) (sym (t .before .numbers .given .1) ∙ t .before .before .before .read-line .ensures)
-
-there : (t : tie.After-known-told) → Spelt (numbers t) (end t .at) ≡ lineAt (start t .args .here .at) (lineIn leafKey 2 (drop (start t .args .here .at) (text t)))
-there t = taken t .0
+-- what the reader took
+took : (t : tie.After-known-told) → AsDue (numbers t) (end t) ≡ takenAt (start t .args .here .at) (start t .args .here .line) (lineIn leafKey 2 (drop (start t .args .here .at) (text t)))
+took t = sym (t .before .numbers .given .1) ∙ t .before .before .before .read-line .ensures
 
 is-exactly-requires : tie.Need-is-exactly-requires
 is-exactly-requires c κs = search needs
 
+not-due-requires-2 : tie.Need-not-due-requires-2
+not-due-requires-2 c κs = search needs
+
 returns-2 : tie.Need-returns-2
-returns-2 c = (
-  λ l next.
-      let t = c .before .before in
-      dueFor-other l leafKey (start t .args .k) (parentRange (start t .args .n) ∷ []) (text t) (start t .args .here .at) (rest l (start t .args .n) next)
-      (omega arith) (numbers t) (end t .at) (there t)
-      (λ z h. sym (not-true _ (c .if1 .taken)) ∙ c .before .is-exactly .ensures z h),
-  tt,
-)
+returns-2 c =
+    let t = c .before .before .before in
+    vertex-other leafKey [] (start t .args .n) (start t .args .k) (text t) (start t .args .here .at) (start t .args .here .line) (start t .pre .1)
+    (omega arith) (numbers t) (end t) (took t) (λ z h. sym (not-true _ (c .before .if1 .taken)) ∙ c .before .before .is-exactly .ensures z h)
+    (c .not-due2 .result) (c .not-due2 .ensures)
 
 same : (c : tie.Else1) → Compared true (start (c .before .before) .args .k) (numbers (c .before .before) .first)
 same c z h = sym (not-false _ (c .if1 .left)) ∙ c .before .is-exactly .ensures z h
 
-mul-is-from-zero : tie.Need-mul-is-from-zero
-mul-is-from-zero c = search needs
+mul-from-zero : tie.Need-mul-from-zero
+mul-from-zero c = search needs
 
-sub-is-from-zero : tie.Need-sub-is-from-zero
-sub-is-from-zero c = search needs
+sub-from-zero : tie.Need-sub-from-zero
+sub-from-zero c = search needs
 
-is-from-zero-requires : tie.Need-is-from-zero-requires
-is-from-zero-requires c κs = search needs
+from-zero-requires : tie.Need-from-zero-requires
+from-zero-requires c κs = search needs
+
+narrow : (c : tie.After-known-told) → Narrow (parentRange (start c .args .n))
+narrow t = from-narrow (2 * start t .args .n - 1) (omega arith) 0
+
+is-inside-requires : tie.Need-is-inside-requires
+is-inside-requires c κs = subst Narrow (sym (c .from-zero .ensures)) (narrow (c .before .before .before .before))
+
+-- how the parent was tested
+tested : (c : tie.After-is-inside) (u : Bool) → c .is-inside .result ≡ u
+    → Tested u (parentRange (start (c .before .before .before .before .before) .args .n)) (numbers (c .before .before .before .before .before) .second)
+tested c u e =
+    let t = c .before .before .before .before .before in
+    tested-as (c .is-inside .result) u (c .before .from-zero .result) (parentRange (start t .args .n)) (numbers t .second) (c .is-inside .ensures) e (c .before .from-zero .ensures)
+
+out-of-range-requires : tie.Need-out-of-range-requires
+out-of-range-requires c κs = search needs
 
 returns-3 : tie.Need-returns-3
-returns-3 c = (
-  λ l next.
-      let e = c .before .before .before in
-      let t = e .before .before in
-      dueFor-out l leafKey (start t .args .k) (parentRange (start t .args .n) ∷ []) (text t) (start t .args .here .at) (rest l (start t .args .n) next)
-      (omega arith) (numbers t) (end t .at) (there t) (same e)
-      (inl (λ z h. sym (not-true _ (c .if2 .taken)) ∙ c .before .is-from-zero .ensures z h)),
-  tt,
-)
-
-inside : (c : tie.Else2) → Tested true (parentRange (start (c .before .before .before .before .before) .args .n)) (numbers (c .before .before .before .before .before) .second)
-inside c z h = sym (not-false _ (c .if2 .left)) ∙ c .before .is-from-zero .ensures z h
-
-is-sink-requires : tie.Need-is-sink-requires
-is-sink-requires c κs = search needs
-
-returns-4 : tie.Need-returns-4
-returns-4 c = (
-  λ l next.
-      let i = c .before .before in
-      let e = i .before .before .before in
-      let t = e .before .before in
-      vertex-sink l leafKey (start t .args .n) (start t .args .k) [] (text t) (start t .args .here .at) (λ zs r. next (natAbs (at zs 0)) r)
-      (omega arith) (numbers t) (end t .at) (there t) (same e)
-      (from-narrow (2 * start t .args .n - 1) (omega arith) 0, tt) (inside i, tt)
-      (sym (c .if3 .taken) ∙ c .before .is-sink .ensures),
-  tt,
-)
-
-returns-5 : tie.Need-returns-5
-returns-5 c =
+returns-3 c =
     let i = c .before .before in
     let e = i .before .before .before in
-    let t = e .before .before in (
-      λ l next.
-          vertex-in l leafKey (start t .args .n) (start t .args .k) [] (text t) (start t .args .here .at) (λ zs r. next (natAbs (at zs 0)) r)
-          (omega arith) (numbers t) (end t .at) (there t) (same e) (from-narrow (2 * start t .args .n - 1) (omega arith) 0, tt) (inside i, tt)
-          (sym (c .if3 .left) ∙ c .before .is-sink .ensures)
-          ∙ ap (λ (p : ℕ). next p (drop (end t .at) (text t))) (value-abs (numbers t .second)),
-      (next-line leafKey 2 (text t) (start t .args .here .at) (numbers t) (end t .at) (there t) (start t .pre .0) .1, taken t .1),
-    )
+    let t = e .before .before in
+    vertex-out leafKey [] (start t .args .n) (start t .args .k) (text t) (start t .args .here .at) (start t .args .here .line) (start t .pre .1)
+    (omega arith) (numbers t) (end t) (took t) (same e) (inl (tested i false (not-true _ (c .before .if2 .taken))))
+    (c .out-of-range .result) (c .out-of-range .ensures)
+
+with-parent-requires : tie.Need-with-parent-requires
+with-parent-requires c κs = search needs
+
+returns-4 : tie.Need-returns-4
+returns-4 c =
+    let i = c .before .before in
+    let e = i .before .before .before in
+    let t = e .before .before in
+    vertex-in leafKey [] (start t .args .n) (start t .args .k) (text t) (start t .args .here .at) (start t .args .here .line) (start t .pre .1)
+    (omega arith) (numbers t) (end t) (took t) (same e) (start t .pre .0) (narrow t, tt) (tested i true (not-false _ (c .before .if2 .left)), tt)
+    (numbers t .second .mag) (pos 0) (pos 0) (ap (λ (p : ℕ). record { parent = p; point = record { x = pos 0; y = pos 0 } }) (value-abs (numbers t .second)))
+    (c .with-parent .result) (c .with-parent .ensures)
 
 pub leaf-at-spec : {M : Type 1} → statement M
 leaf-at-spec =
@@ -145,13 +132,16 @@ leaf-at-spec =
     read-line-requires
     enum-known-numbers
     enum-told
+    not-due-requires
     returns
     is-exactly-requires
+    not-due-requires-2
     returns-2
-    mul-is-from-zero
-    sub-is-from-zero
-    is-from-zero-requires
+    mul-from-zero
+    sub-from-zero
+    from-zero-requires
+    is-inside-requires
+    out-of-range-requires
     returns-3
-    is-sink-requires
-    returns-4
-    returns-5)
+    with-parent-requires
+    returns-4)

@@ -1,30 +1,28 @@
-use Prim.Native.Nat.{ℕ, _+_, _*_, _-_, _≤_}
+-- The line of node k is read, or refused by 2, 3 or 8: by its spelling, its number, the ranges, and whether its parent is a sink. No loop.
+use Prim.Native.Nat.{ℕ, _*_, _-_, _≤_}
 use mathlib.Core.Path.{_≡_, sym, _∙_}
 use mathlib.Core.Bool.{true}
-use mathlib.Core.Logic.{inl, inr}
-use mathlib.Core.List.{List, [], _∷_}
+use mathlib.Core.List.{List, _∷_}
 use native.Mathlib.Omega.{arith}
 use lib.ListN.{drop}
-use lib.IntN.{ℤ, natAbs}
 use mir.Facts.{toZ-ofZ}
 use denote.Ref.{now}
 use borrow.Author.Needs.{needs}
 use borrow.Author.Tests.{not-true, not-false}
-use Rattle.quantities.specs.declared.point.Point.{Point}
-use Rattle.quantities.specs.Linear.{fit}
-use Rattle.tree.specs.Limits.{positionLimit}
+use Rattle.quantities.specs.Inner.Linear.{rd, fit}
+use Rattle.tree.specs.Limits.{positionLimit, sinkLimit}
+use Rattle.formats.specs.declared.ranges.Range.{Range}
 use Rattle.formats.specs.Line.{lineIn}
-use Rattle.formats.specs.Reading.{Range, at, Outcome, refused}
-use Rattle.formats.specs.NetText.{around}
-use Rattle.formats.specs.ListingText.{Listing, nodeKey, parentRange, noSink}
-use Rattle.formats.specs.Scanning.{lineAt}
+use Rattle.formats.specs.NetText.{positionRanges}
+use Rattle.formats.specs.ListingText.{nodeKey, parentRange}
+use Rattle.formats.specs.Inner.Scanning.{takenAt}
+use Rattle.formats.specs.Inner.Ranging.{Passed, others}
 use Rattle.formats.specs.declared.scan.Numbers.{Numbers}
-use Rattle.formats.specs.declared.scan.Line.the-variants.{Spelt}
 use Rattle.formats.specs.declared.reader.Place.{Place}
-use Rattle.formats.specs.Ranging.{Passed}
-use Rattle.formats.proofs.Laws.Due.{value-abs, around-narrow, from-narrow, others, AllNarrow, AllSmall, Compared, next-line, dueFor-wrong, dueFor-other, dueFor-out, dueFor-small}
-use Rattle.formats.proofs.Laws.Taking.{wrong-line, right-line}
-use Rattle.formats.proofs.Laws.DueFor.{vertex-sink, vertex-in}
+use Rattle.formats.specs.declared.reader.Taken.the-variants.{AsDue}
+use Rattle.formats.proofs.Laws.Numbers.Ranges.{around-narrow, from-narrow}
+use Rattle.formats.proofs.Laws.Lines.Due.{value-abs, AllNarrow, AllSmall, passed, failed, Compared}
+use Rattle.formats.proofs.Laws.Listings.DueFor.{vertex-wrong, vertex-other, vertex-small, vertex-out, vertex-in}
 use Rattle.formats.proofs.read_listing.node_at.Statement.{statement}
 use Rattle.formats.proofs.read_listing.node_at.Tie as tie
 
@@ -52,155 +50,94 @@ enum-known-numbers c = search needs
 enum-told : tie.Need-enum-told
 enum-told c = search needs
 
-abbrev ranges : ℕ → List Range
-ranges n = parentRange n ∷ (around positionLimit ∷ (around positionLimit ∷ []))
-
-narrow : (n : ℕ) → n ≤ 512 → AllNarrow (ranges n)
-narrow n h = (from-narrow (2 * n - 1) (omega arith) 0, (around-narrow positionLimit (omega arith), (around-narrow positionLimit (omega arith), tt)))
-
--- what follows a line whose numbers are in range
-abbrev next-of : (ℕ → Point → List ℕ → Outcome Listing) → List ℤ → List ℕ → Outcome Listing
-next-of next zs r = next (natAbs (at zs 0)) (record { x = at zs 1; y = at zs 2 }) r
-
-abbrev rest : ℕ → ℕ → (ℕ → Point → List ℕ → Outcome Listing) → List ℤ → List ℕ → Outcome Listing
-rest l n next zs r = noSink n l (natAbs (at zs 0)) (next-of next zs r)
+not-due-requires : tie.Need-not-due-requires
+not-due-requires c κs = search needs
 
 returns : tie.Need-returns
-returns c = (
-  λ l next.
-      let b = c .before .before .before .before .before in
-      dueFor-wrong l nodeKey (b .args .k) (ranges (b .args .n)) (now (b .args .text)) (b .args .here .at) (rest l (b .args .n) next)
-      (wrong-line nodeKey 4 (now (b .args .text)) (b .args .here .at) (b .args .here .line) (sym (c .enum-told .given .1) ∙ c .before .before .read-line .ensures)),
-  tt,
-)
+returns c =
+    let b = c .before .before .before .before .before .before in
+    vertex-wrong nodeKey positionRanges (b .args .n) (b .args .k) (now (b .args .text)) (b .args .here .at) (b .args .here .line) (b .pre .1)
+    (sym (c .before .enum-told .given .1) ∙ c .before .before .before .read-line .ensures)
+    (c .not-due .result) (c .not-due .ensures)
 
--- the line, and the number of the next one
-taken : (t : tie.After-known-told)
-    → (Spelt (numbers t) (end t .at) ≡ lineAt (start t .args .here .at) (lineIn nodeKey 4 (drop (start t .args .here .at) (text t)))) × (end t .line ≡ start t .args .here .line + 1)
-taken t =
-    right-line nodeKey 4 (text t) (start t .args .here .at) (start t .args .here .line) (numbers t) (end t) (sym (t .before .numbers .given .1) ∙ t .before .before .before .read-line .ensures)
-
-there : (t : tie.After-known-told) → Spelt (numbers t) (end t .at) ≡ lineAt (start t .args .here .at) (lineIn nodeKey 4 (drop (start t .args .here .at) (text t)))
-there t = taken t .0
+-- what the reader took
+took : (t : tie.After-known-told) → AsDue (numbers t) (end t) ≡ takenAt (start t .args .here .at) (start t .args .here .line) (lineIn nodeKey 4 (drop (start t .args .here .at) (text t)))
+took t = sym (t .before .numbers .given .1) ∙ t .before .before .before .read-line .ensures
 
 is-exactly-requires : tie.Need-is-exactly-requires
 is-exactly-requires c κs = search needs
 
+not-due-requires-2 : tie.Need-not-due-requires-2
+not-due-requires-2 c κs = search needs
+
 returns-2 : tie.Need-returns-2
-returns-2 c = (
-  λ l next.
-      let t = c .before .before in
-      dueFor-other l nodeKey (start t .args .k) (ranges (start t .args .n)) (text t) (start t .args .here .at) (rest l (start t .args .n) next)
-      (omega arith) (numbers t) (end t .at) (there t) (λ z h. sym (not-true _ (c .if1 .taken)) ∙ c .before .is-exactly .ensures z h),
-  tt,
-)
+returns-2 c =
+    let t = c .before .before .before in
+    vertex-other nodeKey positionRanges (start t .args .n) (start t .args .k) (text t) (start t .args .here .at) (start t .args .here .line) (start t .pre .1)
+    (omega arith) (numbers t) (end t) (took t) (λ z h. sym (not-true _ (c .before .if1 .taken)) ∙ c .before .before .is-exactly .ensures z h)
+    (c .not-due2 .result) (c .not-due2 .ensures)
 
 same : (c : tie.Else1) → Compared true (start (c .before .before) .args .k) (numbers (c .before .before) .first)
 same c z h = sym (not-false _ (c .if1 .left)) ∙ c .before .is-exactly .ensures z h
 
-mul-is-from-zero : tie.Need-mul-is-from-zero
-mul-is-from-zero c = search needs
+abbrev ranges : ℕ → List Range
+ranges n = parentRange n ∷ positionRanges
 
-sub-is-from-zero : tie.Need-sub-is-from-zero
-sub-is-from-zero c = search needs
+narrow : (n : ℕ) → n ≤ sinkLimit → AllNarrow (ranges n)
+narrow n h = (from-narrow (2 * n - 1) (omega arith) 0, (around-narrow positionLimit (omega arith), (around-narrow positionLimit (omega arith), tt)))
 
-is-from-zero-requires : tie.Need-is-from-zero-requires
-is-from-zero-requires c κs = search needs
+node-in-range-requires : tie.Need-node-in-range-requires
+node-in-range-requires c κs = search needs
+
+out-of-range-requires : tie.Need-out-of-range-requires
+out-of-range-requires c κs = search needs
 
 returns-3 : tie.Need-returns-3
-returns-3 c = (
-  λ l next.
-      let e = c .before .before .before in
-      let t = e .before .before in
-      dueFor-out l nodeKey (start t .args .k) (ranges (start t .args .n)) (text t) (start t .args .here .at) (rest l (start t .args .n) next)
-      (omega arith) (numbers t) (end t .at) (there t) (same e) (inl (λ z h. sym (not-true _ (c .if2 .taken)) ∙ c .before .is-from-zero .ensures z h)),
-  tt,
-)
+returns-3 c =
+    let r = c .before .before in
+    let e = r .before in
+    let t = e .before .before in
+    vertex-out nodeKey positionRanges (start t .args .n) (start t .args .k) (text t) (start t .args .here .at) (start t .args .here .line) (start t .pre .1)
+    (omega arith) (numbers t) (end t) (took t) (same e)
+    (failed (r .node-in-range .result) (ranges (start t .args .n)) (others (numbers t)) (r .node-in-range .ensures) (not-true _ (c .before .if2 .taken)))
+    (c .out-of-range .result) (c .out-of-range .ensures)
 
-is-around-requires : tie.Need-is-around-requires
-is-around-requires c κs = search needs
-
-returns-4 : tie.Need-returns-4
-returns-4 c = (
-  λ l next.
-      let e = c .before .before .before .before .before .before in
-      let t = e .before .before in
-      dueFor-out l nodeKey (start t .args .k) (ranges (start t .args .n)) (text t) (start t .args .here .at) (rest l (start t .args .n) next)
-      (omega arith) (numbers t) (end t .at) (there t) (same e) (inr (inl (λ z h. sym (not-true _ (c .if3 .taken)) ∙ c .before .is-around .ensures z h))),
-  tt,
-)
-
-is-around-requires-2 : tie.Need-is-around-requires-2
-is-around-requires-2 c κs = search needs
-
-returns-5 : tie.Need-returns-5
-returns-5 c = (
-  λ l next.
-      let e = c .before .before .before .before .before .before .before .before .before in
-      let t = e .before .before in
-      dueFor-out l nodeKey (start t .args .k) (ranges (start t .args .n)) (text t) (start t .args .here .at) (rest l (start t .args .n) next)
-      (omega arith) (numbers t) (end t .at) (there t) (same e) (inr (inr (inl (λ z h. sym (not-true _ (c .if4 .taken)) ∙ c .before .is-around2 .ensures z h)))),
-  tt,
-)
-
-inside : (c : tie.Else4) → Passed (ranges (start (c .before .before .before .before .before .before .before .before .before .before .before) .args .n)) (others (numbers (c .before .before .before .before .before .before .before .before .before .before .before)))
+-- every number is in its range
+inside : (c : tie.Else2) → Passed (ranges (start (c .before .before .before .before) .args .n)) (others (numbers (c .before .before .before .before)))
 inside c =
-    let x = c .before .before .before in
-    let p = x .before .before .before in (
-      λ z h. sym (not-false _ (p .if2 .left)) ∙ p .before .is-from-zero .ensures z h,
-      (
-        λ z h. sym (not-false _ (x .if3 .left)) ∙ x .before .is-around .ensures z h,
-        (λ z h. sym (not-false _ (c .if4 .left)) ∙ c .before .is-around2 .ensures z h, tt),
-      ),
-    )
+    let t = c .before .before .before .before in
+    passed (c .before .node-in-range .result) (ranges (start t .args .n)) (others (numbers t)) (c .before .node-in-range .ensures) (not-false _ (c .if2 .left))
 
-is-sink-requires : tie.Need-is-sink-requires
-is-sink-requires c κs = search needs
-
-returns-6 : tie.Need-returns-6
-returns-6 c = (
-  λ l next.
-      let i = c .before .before in
-      let e = i .before .before .before .before .before .before .before .before .before in
-      let t = e .before .before in
-      vertex-sink l nodeKey (start t .args .n) (start t .args .k) (around positionLimit ∷ (around positionLimit ∷ [])) (text t) (start t .args .here .at) (next-of next)
-      (omega arith) (numbers t) (end t .at) (there t) (same e) (narrow (start t .args .n) (start t .pre .3)) (inside i)
-      (sym (c .if5 .taken) ∙ c .before .is-sink .ensures),
-  tt,
-)
-
-small : (c : tie.Else4) → AllSmall (ranges (start (c .before .before .before .before .before .before .before .before .before .before .before) .args .n)) (others (numbers (c .before .before .before .before .before .before .before .before .before .before .before)))
+small : (c : tie.Else2) → AllSmall (ranges (start (c .before .before .before .before) .args .n)) (others (numbers (c .before .before .before .before)))
 small c =
-    let t = c .before .before .before .before .before .before .before .before .before .before .before in
-    dueFor-small {A = ℕ} 0 nodeKey (start t .args .k) (ranges (start t .args .n)) (text t) (start t .args .here .at) (λ zs r. refused 0 0)
-    (omega arith) (numbers t) (end t .at) (there t) (narrow (start t .args .n) (start t .pre .3)) (inside c)
+    let t = c .before .before .before .before in
+    vertex-small nodeKey positionRanges (start t .args .n) (start t .args .k) (text t) (start t .args .here .at) (start t .args .here .line) (start t .pre .1)
+    (omega arith) (numbers t) (end t) (took t) (narrow (start t .args .n) (start t .pre .3)) (inside c)
 
 value-requires : tie.Need-value-requires
-value-requires c κs = small (c .before .before) .1 .0
+value-requires c κs = small (c .before .before .before) .1 .0
 
 value-requires-2 : tie.Need-value-requires-2
-value-requires-2 c κs = small (c .before .before .before) .1 .1 .0
+value-requires-2 c κs = small (c .before .before .before .before) .1 .1 .0
 
-returns-7 : tie.Need-returns-7
-returns-7 c =
-    let i = c .before .before .before .before in
-    let e = i .before .before .before .before .before .before .before .before .before in
+with-parent-requires : tie.Need-with-parent-requires
+with-parent-requires c κs = search needs
+
+returns-4 : tie.Need-returns-4
+returns-4 c =
+    let i = c .before .before .before .before .before .before in
+    let e = i .before .before in
     let t = e .before .before in
-    let x = c .before .value in
-    let y = c .value2 in (
-      λ l next.
-          vertex-in l nodeKey (start t .args .n) (start t .args .k) (around positionLimit ∷ (around positionLimit ∷ [])) (text t) (start t .args .here .at) (next-of next)
-          (omega arith) (numbers t) (end t .at) (there t) (same e) (narrow (start t .args .n) (start t .pre .3)) (inside i)
-          (sym (c .before .before .if5 .left) ∙ c .before .before .before .is-sink .ensures)
-          ∙ (λ j. next
-          (value-abs (numbers t .second) j)
-          (record {
-            x = sym (toZ-ofZ (fit (x .result) (x .ok)) ∙ x .ensures) j;
-            y = sym (toZ-ofZ (fit (y .result) (y .ok)) ∙ y .ensures) j;
-          })
-          (drop (end t .at) (text t))),
-      (next-line nodeKey 4 (text t) (start t .args .here .at) (numbers t) (end t .at) (there t) (start t .pre .0) .1, taken t .1),
-    )
+    let x = c .before .before .value in
+    let y = c .before .value2 in
+    vertex-in nodeKey positionRanges (start t .args .n) (start t .args .k) (text t) (start t .args .here .at) (start t .args .here .line) (start t .pre .1)
+    (omega arith) (numbers t) (end t) (took t) (same e) (start t .pre .0) (narrow (start t .args .n) (start t .pre .3)) (inside i)
+    (numbers t .second .mag) (rd (x .result)) (rd (y .result))
+    (λ j. record {
+      parent = value-abs (numbers t .second) j;
+      point = record { x = sym (toZ-ofZ (fit (x .result) (x .ok)) ∙ x .ensures) j; y = sym (toZ-ofZ (fit (y .result) (y .ok)) ∙ y .ensures) j };
+    })
+    (c .with-parent .result) (c .with-parent .ensures)
 
 pub node-at-spec : {M : Type 1} → statement M
 node-at-spec =
@@ -210,19 +147,15 @@ node-at-spec =
     read-line-requires
     enum-known-numbers
     enum-told
+    not-due-requires
     returns
     is-exactly-requires
+    not-due-requires-2
     returns-2
-    mul-is-from-zero
-    sub-is-from-zero
-    is-from-zero-requires
+    node-in-range-requires
+    out-of-range-requires
     returns-3
-    is-around-requires
-    returns-4
-    is-around-requires-2
-    returns-5
-    is-sink-requires
-    returns-6
     value-requires
     value-requires-2
-    returns-7)
+    with-parent-requires
+    returns-4)

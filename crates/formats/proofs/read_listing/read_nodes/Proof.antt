@@ -1,15 +1,17 @@
-use Prim.Native.Nat.{_+_, _*_, _-_, _≤_, _<_}
-use mathlib.Core.Path.{_≡_, refl, sym, ap, subst, _∙_}
+-- The nodes' lines are read into the arrays, or refused as due: those below k stand there, the lines left come to the same nodes (LinesTo), up to n all is kept.
+use Prim.Native.Nat.{suc, _+_, _*_, _-_, _≤_, _<_}
+use mathlib.Core.Path.{_≡_, refl, sym, subst, _∙_}
 use native.Mathlib.Omega.{arith}
-use lib.ListN.{length, drop, length-set}
+use lib.ListN.{length, set, drop, length-set}
 use lib.IntN.{pos}
 use mir.Facts.{toZ-ofZ}
 use denote.Ref.{now}
 use borrow.Author.Needs.{needs}
-use Rattle.quantities.specs.Linear.{rd, fit}
-use Rattle.formats.specs.ListingReader.{nodeOutcome, NodeWithin}
-use Rattle.formats.specs.declared.read_listing.NodeRead.the-variants.{Node}
-use Rattle.formats.proofs.Laws.ListingLines.{NodesTo, Kept, kept-more, nodes-start, nodes-more, nodes-refused, nodes-all}
+use Rattle.quantities.specs.Inner.Linear.{rd, fit}
+use Rattle.formats.specs.Reading.{value}
+use Rattle.formats.specs.ListingText.{dueNode}
+use Rattle.formats.specs.Inner.ListingReader.{VertexSays, nodesIn, vertexHeld}
+use Rattle.formats.proofs.Laws.Listings.ListingLines.{LinesTo, Kept, kept-more, lines-start, lines-more, lines-refused, lines-all, nodes-told, vertex-below, vertex-here}
 use Rattle.formats.proofs.read_listing.read_nodes.Statement.{statement}
 use Rattle.formats.proofs.read_listing.read_nodes.Tie as tie
 
@@ -18,7 +20,7 @@ Inv-loop text n parents₀ xs₀ ys₀ here₀ k₀ parents xs ys here k =
     (n < k) × (k ≤ 2 * n) × (here .at ≤ length text) × (here .line ≡ k + 3)
     × ((length parents ≡ length parents₀) × (length xs ≡ length xs₀) × (length ys ≡ length ys₀))
     × (Kept 0 n parents₀ parents × Kept (pos 0) n xs₀ xs × Kept (pos 0) n ys₀ ys)
-    × NodesTo n text (here₀ .at) parents xs ys (here .at) k
+    × LinesTo (λ v. v) (dueNode n) (nodesIn n (drop (here₀ .at) text)) (vertexHeld parents xs ys) (suc n) (n - 1) text (here .at) k
 
 abbrev μ-loop : tie.MeasureT-loop
 μ-loop text n parents₀ xs₀ ys₀ here₀ k₀ parents xs ys here k = 2 * n - k
@@ -36,7 +38,8 @@ loop-holds c =
       omega (arith, b .pre .1),
       (refl, refl, refl),
       (λ v h. refl, λ v h. refl, λ v h. refl),
-      nodes-start (a .n) (now (a .text)) (a .from .at) (now (a .parents)) (now (a .xs)) (now (a .ys)) (omega arith),
+      nodes-told (a .n) (drop (a .from .at) (now (a .text)))
+          ∙ lines-start (λ v. v) (dueNode (a .n)) (suc (a .n)) (a .n - 1) (now (a .text)) (vertexHeld (now (a .parents)) (now (a .xs)) (now (a .ys))) (a .from .at) (a .n + 1) (omega arith),
     )
 
 mul-loop : tie.Need-mul-loop Inv-loop μ-loop
@@ -80,27 +83,27 @@ loop-again c =
     let g = c .before .parent .given in
     let x = toZ-ofZ (fit (g .0 .1 .0) (c .known-told .given .1 .0 .1)) in
     let y = toZ-ofZ (fit (g .0 .1 .1 .0) (c .known-told .given .1 .1 .0 .1)) in
-    let m : NodeWithin (Node (g .0 .0) (g .0 .1 .0) (g .0 .1 .1 .0) (g .0 .1 .1 .1 .0)) (w .here .line) (now (a .text)) = subst (λ o. NodeWithin o (w .here .line) (now (a .text))) (g .1) (r .ensures .1) in (
+    let m = subst (VertexSays (dueNode (a .n) (w .k) (drop (w .here .at) (now (a .text)))) (now (a .text)) (w .here .line)) (g .1) (r .ensures) in (
       omega arith,
       omega arith,
-      m .0,
-      omega (arith, m .1, w .inv .3),
+      m .within,
+      omega (arith, m .line-is, w .inv .3),
       (simp length-set (w .inv .4 .0), simp length-set (w .inv .4 .1), simp length-set (w .inv .4 .2)),
       (
         kept-more 0 (a .n) (w .k) (now (a .parents)) (w .parents) (g .0 .0) (w .inv .0) (w .inv .5 .0),
         kept-more (pos 0) (a .n) (w .k) (now (a .xs)) (w .xs) (rd (g .0 .1 .0)) (w .inv .0) (w .inv .5 .1),
         kept-more (pos 0) (a .n) (w .k) (now (a .ys)) (w .ys) (rd (g .0 .1 .1 .0)) (w .inv .0) (w .inv .5 .2),
       ),
-      nodes-more (a .n) (now (a .text)) (a .from .at) (w .parents) (w .xs) (w .ys) (w .here .at) (w .k) (w .inv .6)
-          (omega arith) (omega arith) (omega arith) (omega arith) (omega arith) (g .0 .0) (rd (g .0 .1 .0)) (rd (g .0 .1 .1 .0)) (g .0 .1 .1 .1 .0 .at)
-          (λ l next.
-          r .ensures .0 l next
-          ∙ ap (λ o. nodeOutcome o l (now (a .text)) next) (g .1)
-          ∙ (λ i. next (g .0 .0) (record { x = sym x i; y = sym y i }) (drop (g .0 .1 .1 .1 .0 .at) (now (a .text))))),
+      lines-more (λ v. v) (dueNode (a .n)) (suc (a .n)) (a .n - 1) (now (a .text)) (nodesIn (a .n) (drop (a .from .at) (now (a .text)))) (vertexHeld (w .parents) (w .xs) (w .ys)) (w .here .at) (w .k) (w .inv .6)
+          (record { parent = g .0 .0; point = record { x = rd (g .0 .1 .0); y = rd (g .0 .1 .1 .0) } }) (g .0 .1 .1 .1 .0 .at) (omega arith) (omega arith)
+          (m .reads ∙ (λ i. value (record { got = record { parent = g .0 .0; point = record { x = sym x i; y = sym y i } }; rest = drop (g .0 .1 .1 .1 .0 .at) (now (a .text)) })))
+          (vertexHeld (set (w .parents) (w .k) (g .0 .0)) (set (w .xs) (w .k) (rd (g .0 .1 .0))) (set (w .ys) (w .k) (rd (g .0 .1 .1 .0))))
+          (vertex-below (w .parents) (w .xs) (w .ys) (w .k) (g .0 .0) (rd (g .0 .1 .0)) (rd (g .0 .1 .1 .0)))
+          (vertex-here (w .parents) (w .xs) (w .ys) (w .k) (g .0 .0) (rd (g .0 .1 .0)) (rd (g .0 .1 .1 .0)) (omega arith) (omega arith) (omega arith)),
     )
 
-enum-known-number : tie.Need-enum-known-number Inv-loop μ-loop
-enum-known-number c = search needs
+enum-known-refusal : tie.Need-enum-known-refusal Inv-loop μ-loop
+enum-known-refusal c = search needs
 
 same-length : tie.Need-same-length Inv-loop μ-loop
 same-length c = omega arith
@@ -116,10 +119,10 @@ returns c =
     let r = c .before .before .before .node-at in
     let w = c .before .before .before .before .before .loop in
     let a = c .before .before .before .before .before .before .before .before .args in
-    let g = c .before .number .given in (
-      nodes-refused (a .n) (now (a .text)) (a .from .at) (w .parents) (w .xs) (w .ys) (w .here .at) (w .k) (w .inv .6) (omega arith) (g .0 .0) (w .here .line) (w .inv .3)
-          (λ l next. r .ensures .0 l next ∙ ap (λ o. nodeOutcome o l (now (a .text)) next) (g .1)),
-      (tt, (w .inv .5 .0, λ v h i. record { x = w .inv .5 .1 v h i; y = w .inv .5 .2 v h i })),
+    let g = c .before .refusal .given in (
+      lines-refused (λ v. v) (dueNode (a .n)) (suc (a .n)) (a .n - 1) (now (a .text)) (nodesIn (a .n) (drop (a .from .at) (now (a .text)))) (vertexHeld (w .parents) (w .xs) (w .ys)) (w .here .at) (w .k) (w .inv .6)
+          (g .0 .0) (omega arith) (subst (VertexSays (dueNode (a .n) (w .k) (drop (w .here .at) (now (a .text)))) (now (a .text)) (w .here .line)) (g .1) (r .ensures)),
+      (w .inv .5 .0, λ v h i. record { x = w .inv .5 .1 v h i; y = w .inv .5 .2 v h i }),
     )
 
 same-length-4 : tie.Need-same-length-4 Inv-loop μ-loop
@@ -135,8 +138,12 @@ returns-2 : tie.Need-returns-2 Inv-loop μ-loop
 returns-2 c =
     let w = c .before .loop in
     let a = c .before .before .before .before .args in (
-      nodes-all (a .n) (now (a .text)) (a .from .at) (w .parents) (w .xs) (w .ys) (w .here .at) (w .k) (w .inv .6) (omega arith),
-      ((w .inv .2, omega (arith, w .inv .3)), (w .inv .5 .0, λ v h i. record { x = w .inv .5 .1 v h i; y = w .inv .5 .2 v h i })),
+      record {
+        reads = lines-all (λ v. v) (dueNode (a .n)) (suc (a .n)) (a .n - 1) (now (a .text)) (nodesIn (a .n) (drop (a .from .at) (now (a .text)))) (vertexHeld (w .parents) (w .xs) (w .ys)) (w .here .at) (w .k) (w .inv .6) (omega arith);
+        within = w .inv .2;
+        line-is = omega (arith, w .inv .3);
+      },
+      (w .inv .5 .0, λ v h i. record { x = w .inv .5 .1 v h i; y = w .inv .5 .2 v h i }),
     )
 
 pub read-nodes-spec : {M : Type 1} → statement M
@@ -159,7 +166,7 @@ read-nodes-spec =
     add-k-2
     loop-less
     loop-again
-    enum-known-number
+    enum-known-refusal
     same-length
     same-length-2
     same-length-3

@@ -1,13 +1,52 @@
-use Prim.Native.Nat.{_+_, _*_}
-use mathlib.Core.Path.{_≡_, refl, sym, subst, _∙_}
+-- The arrays hold the tree that the vertices' lines say, or the first refusal is told: leaves, nodes, then the test for bytes after them. No loop.
+use Prim.Native.Nat.{suc, _+_, _*_, _-_}
+use mathlib.Core.Path.{_≡_, refl, sym, ap, subst, _∙_}
+use lib.ListN.{drop}
 use denote.Ref.{now}
 use borrow.Author.Needs.{needs}
 use borrow.Author.Tests.{ltb-true, ltb-false}
-use Rattle.formats.specs.ListingReader.{LinesWithin}
-use Rattle.formats.specs.declared.read_listing.Lines.the-variants.{LinesRead}
-use Rattle.formats.proofs.Laws.ListingLines.{tree-no-leaves, tree-no-nodes, tree-more, tree-all}
+use Rattle.formats.specs.Reading.{value}
+use Rattle.formats.specs.Inner.Readers.{ReadTo}
+use Rattle.formats.specs.Inner.ListingReader.{LinesSay, parentsFrom, verticesFrom, leavesIn, nodesIn}
+use Rattle.formats.specs.declared.reader.Place.{Place}
+use Rattle.formats.specs.declared.read_listing.VertexLines.{VertexLines}
+use Rattle.formats.specs.declared.read_listing.VertexLines.the-variants.{VerticesRead, VerticesRefused}
+use Rattle.formats.proofs.Laws.Listings.ListingLines.{tree-no-leaves, tree-no-nodes, tree-more, tree-all, tree-held, tell-refused}
 use Rattle.formats.proofs.read_listing.read_tree.Statement.{statement}
 use Rattle.formats.proofs.read_listing.read_tree.Tie as tie
+
+abbrev start : tie.After-read-leaves → tie.Start
+start l = l .before .before .before .before
+
+-- what the reader of the leaves answered
+leaves-say : (l : tie.After-read-leaves) (r : VertexLines) → l .read-leaves .result ≡ r
+    → LinesSay (leavesIn (start l .args .n) (drop (start l .args .from .at) (now (start l .args .text)))) (parentsFrom (l .read-leaves .last .1 .1 .1 .0) 1 (start l .args .n)) (now (start l .args .text)) (start l .args .n + 4) r
+leaves-say l r e =
+    let a = start l .args in
+    subst (LinesSay (leavesIn (a .n) (drop (a .from .at) (now (a .text)))) (parentsFrom (l .read-leaves .last .1 .1 .1 .0) 1 (a .n)) (now (a .text)) (a .n + 4)) e (l .read-leaves .ensures)
+
+abbrev leaves : tie.After-read-nodes → tie.After-read-leaves
+leaves m = m .before .before .before .before .before .before .before .before .before
+
+-- where the nodes start
+abbrev nodes-at : tie.After-read-nodes → Place
+nodes-at m = m .before .before .before .before .before .leaves .given .0 .0
+
+leaves-read : (m : tie.After-read-nodes) → ReadTo (leavesIn (start (leaves m) .args .n) (drop (start (leaves m) .args .from .at) (now (start (leaves m) .args .text)))) (parentsFrom (leaves m .read-leaves .last .1 .1 .1 .0) 1 (start (leaves m) .args .n)) (now (start (leaves m) .args .text)) (start (leaves m) .args .n + 4) (nodes-at m)
+leaves-read m = leaves-say (leaves m) (VerticesRead (nodes-at m)) (m .before .before .before .before .before .leaves .given .1)
+
+-- what the reader of the nodes answered
+nodes-say : (m : tie.After-read-nodes) (r : VertexLines) → m .read-nodes .result ≡ r
+    → LinesSay (nodesIn (start (leaves m) .args .n) (drop (nodes-at m .at) (now (start (leaves m) .args .text))))
+    (verticesFrom (m .read-nodes .last .1 .1 .1 .0) (m .read-nodes .last .1 .1 .1 .1 .0) (m .read-nodes .last .1 .1 .1 .1 .1 .0) (suc (start (leaves m) .args .n)) (start (leaves m) .args .n - 1))
+    (now (start (leaves m) .args .text)) (2 * start (leaves m) .args .n + 3) r
+nodes-say m r e =
+    let a = start (leaves m) .args in
+    subst
+    (LinesSay (nodesIn (a .n) (drop (nodes-at m .at) (now (a .text))))
+    (verticesFrom (m .read-nodes .last .1 .1 .1 .0) (m .read-nodes .last .1 .1 .1 .1 .0) (m .read-nodes .last .1 .1 .1 .1 .1 .0) (suc (a .n)) (a .n - 1))
+    (now (a .text)) (2 * a .n + 3))
+    e (m .read-nodes .ensures .0)
 
 read-leaves-requires : tie.Need-read-leaves-requires
 read-leaves-requires c κs = search needs
@@ -23,20 +62,20 @@ same-length c = search needs
 
 returns : tie.Need-returns
 returns c =
-    let a = c .before .before .before .before .before .before .before .before .args in
-    let l = c .before .before .before .before .read-leaves in
+    let l = c .before .before .before .before in
+    let a = start l .args in
     let g = c .enum-told .given in (
-      λ listing. tree-no-leaves (a .n) (now (a .text)) (a .from .at) (l .result) (l .last .1 .1 .1 .0) (l .ensures .0) listing (g .0 .0) (g .0 .1 .0) (g .1) _,
+      tell-refused (a .n) _ (l .read-leaves .result) _ _ _ (g .0 .0) (g .1)
+          (tree-no-leaves (a .n) (drop (a .from .at) (now (a .text))) (g .0 .0) (leaves-say l (VerticesRefused (g .0 .0)) (g .1))),
       λ v h. refl,
     )
 
 read-nodes-requires : tie.Need-read-nodes-requires
 read-nodes-requires c κs =
-    let l = c .before .before .before .before .before .before .before .before .read-leaves in
-    let s = c .before .before .before .before .before .before .before .before .before .before .before .before in
+    let l = c .before .before .before .before .before .before .before .before in
     let g = c .before .before .before .before .leaves .given in
-    let m : LinesWithin (LinesRead (g .0 .0)) (s .args .n + 4) (now (s .args .text)) = subst (λ o. LinesWithin o (s .args .n + 4) (now (s .args .text))) (g .1) (l .ensures .1) in
-    (m .0, m .1, s .pre .2, s .pre .3, search needs, search needs, search needs)
+    let m = leaves-say l (VerticesRead (g .0 .0)) (g .1) in
+    (m .within, m .line-is, start l .pre .2, start l .pre .3, (search needs, search needs, search needs))
 
 enum-known-nodes : tie.Need-enum-known-nodes
 enum-known-nodes c = search needs
@@ -55,25 +94,13 @@ same-length-4 c = search needs
 
 returns-2 : tie.Need-returns-2
 returns-2 c =
-    let m = c .before .before .before .before .before .before .read-nodes in
-    let e = c .before .before .before .before .before .before .before .before .before .before .before .leaves .given in
-    let l = c .before .before .before .before .before .before .before .before .before .before .before .before .before .before .before .read-leaves in
-    let a = c .before .before .before .before .before .before .before .before .before .before .before .before .before .before .before .before .before .before .before .args in
+    let m = c .before .before .before .before .before .before in
+    let a = start (leaves m) .args in
     let g = c .enum-told2 .given in (
-      λ listing.
-          tree-no-nodes (a .n) (now (a .text)) (a .from .at) (l .result) (l .last .1 .1 .1 .0) (l .ensures .0) listing (e .0 .0) (e .1)
-          (m .result) (m .last .1 .1 .1 .0) (m .last .1 .1 .1 .1 .0) (m .last .1 .1 .1 .1 .1 .0) (m .ensures .0) (g .0 .0) (g .0 .1 .0) (g .1) _,
-      m .ensures .1 .1 .1,
+      tell-refused (a .n) _ (m .read-nodes .result) _ _ _ (g .0 .0) (g .1)
+          (tree-no-nodes (a .n) (now (a .text)) (a .from .at) (parentsFrom (leaves m .read-leaves .last .1 .1 .1 .0) 1 (a .n)) (nodes-at m .at) (leaves-read m .reads) (g .0 .0) (nodes-say m (VerticesRefused (g .0 .0)) (g .1))),
+      m .read-nodes .ensures .1 .1,
     )
-
--- the number of the line after the last
-end-line : (c : tie.After-bytes-follow) → c .before .before .nodes .given .0 .0 .line ≡ 2 * c .before .before .before .before .before .before .before .before .before .before .before .before .before .before .before .before .before .before .before .before .before .args .n + 3
-end-line c =
-    let m = c .before .before .before .before .before .before .before .before .read-nodes in
-    let a = c .before .before .before .before .before .before .before .before .before .before .before .before .before .before .before .before .before .before .before .before .before .args in
-    let g = c .before .before .nodes .given in
-    let w : LinesWithin (LinesRead (g .0 .0)) (2 * a .n + 3) (now (a .text)) = subst (λ o. LinesWithin o (2 * a .n + 3) (now (a .text))) (g .1) (m .ensures .1 .0) in
-    w .1
 
 bytes-follow-requires : tie.Need-bytes-follow-requires
 bytes-follow-requires c κs = search needs
@@ -89,15 +116,15 @@ same-length-7 c = search needs
 
 returns-3 : tie.Need-returns-3
 returns-3 c =
-    let m = c .before .before .before .before .before .before .before .before .before .read-nodes in
-    let e = c .before .before .before .before .before .before .before .before .before .before .before .before .before .before .leaves .given in
-    let l = c .before .before .before .before .before .before .before .before .before .before .before .before .before .before .before .before .before .before .read-leaves in
-    let a = c .before .before .before .before .before .before .before .before .before .before .before .before .before .before .before .before .before .before .before .before .before .before .args in
-    let g = c .before .before .before .nodes .given in (
-      λ listing.
-          tree-more (a .n) (now (a .text)) (a .from .at) (l .result) (l .last .1 .1 .1 .0) (l .ensures .0) listing (e .0 .0) (e .1)
-          (m .result) (m .last .1 .1 .1 .0) (m .last .1 .1 .1 .1 .0) (m .last .1 .1 .1 .1 .1 .0) (m .ensures .0) (g .0 .0) (g .1) (end-line (c .before)) (ltb-true _ _ (sym (c .before .bytes-follow .ensures) ∙ c .if1 .taken)),
-      m .ensures .1 .1 .1,
+    let m = c .before .before .before .before .before .before .before .before .before in
+    let a = start (leaves m) .args in
+    let r = m .read-nodes .last .1 .1 .1 in
+    let g = c .before .before .before .nodes .given in
+    let e = nodes-say m (VerticesRead (g .0 .0)) (g .1) in (
+      tree-more (a .n) (now (a .text)) (a .from .at) (parentsFrom (leaves m .read-leaves .last .1 .1 .1 .0) 1 (a .n)) (nodes-at m .at) (leaves-read m .reads)
+          (verticesFrom (r .0) (r .1 .0) (r .1 .1 .0) (suc (a .n)) (a .n - 1)) (g .0 .0 .at) (e .reads) (g .0 .0 .line) (e .line-is)
+          (ltb-true _ _ (sym (c .before .bytes-follow .ensures) ∙ c .if1 .taken)),
+      m .read-nodes .ensures .1 .1,
     )
 
 same-length-8 : tie.Need-same-length-8
@@ -111,17 +138,16 @@ same-length-10 c = search needs
 
 returns-4 : tie.Need-returns-4
 returns-4 c =
-    let m = c .before .before .before .before .before .before .before .before .before .read-nodes in
-    let e = c .before .before .before .before .before .before .before .before .before .before .before .before .before .before .leaves .given in
-    let l = c .before .before .before .before .before .before .before .before .before .before .before .before .before .before .before .before .before .before .read-leaves in
-    let s = c .before .before .before .before .before .before .before .before .before .before .before .before .before .before .before .before .before .before .before .before .before .before in
-    let a = s .args in
-    let g = c .before .before .before .nodes .given in (
-      λ listing.
-          tree-all (a .n) (now (a .text)) (a .from .at) (l .result) (l .last .1 .1 .1 .0) (l .ensures .0) listing (e .0 .0) (e .1)
-          (m .result) (m .last .1 .1 .1 .0) (m .last .1 .1 .1 .1 .0) (m .last .1 .1 .1 .1 .1 .0) (m .ensures .0) (g .0 .0) (g .1)
-          (s .pre .2) (ltb-false _ _ (sym (c .before .bytes-follow .ensures) ∙ c .if1 .left)) (m .ensures .1 .1 .0),
-      m .ensures .1 .1 .1,
+    let m = c .before .before .before .before .before .before .before .before .before in
+    let a = start (leaves m) .args in
+    let r = m .read-nodes .last .1 .1 .1 in
+    let g = c .before .before .before .nodes .given in
+    let e = nodes-say m (VerticesRead (g .0 .0)) (g .1) in (
+      tree-all (a .n) (now (a .text)) (a .from .at) (parentsFrom (leaves m .read-leaves .last .1 .1 .1 .0) 1 (a .n)) (nodes-at m .at) (leaves-read m .reads)
+          (verticesFrom (r .0) (r .1 .0) (r .1 .1 .0) (suc (a .n)) (a .n - 1)) (g .0 .0 .at) (e .reads)
+          (ltb-false _ _ (sym (c .before .bytes-follow .ensures) ∙ c .if1 .left))
+          ∙ ap value (tree-held (a .n) (leaves m .read-leaves .last .1 .1 .1 .0) (r .0) (r .1 .0) (r .1 .1 .0) (start (leaves m) .pre .2) (m .read-nodes .ensures .1 .0)),
+      m .read-nodes .ensures .1 .1,
     )
 
 pub read-tree-spec : {M : Type 1} → statement M

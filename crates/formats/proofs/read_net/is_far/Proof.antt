@@ -3,7 +3,7 @@ use mathlib.Core.Path.{ap₂, _∙_}
 use native.Mathlib.Omega.{arith}
 use borrow.Author.Needs.{needs}
 use lib.Dec.{ltb}
-use Rattle.quantities.specs.Linear.{whole}
+use Rattle.quantities.specs.Inner.Linear.{whole}
 use Rattle.formats.proofs.read_net.is_far.Statement.{statement}
 use Rattle.formats.proofs.read_net.is_far.Tie as tie
 

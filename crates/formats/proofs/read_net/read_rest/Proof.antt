@@ -5,8 +5,8 @@ use denote.Ref.{now}
 use native.Mathlib.Omega.{arith}
 use mir.Facts.{toZ-ofZ}
 use borrow.Author.Needs.{needs}
-use Rattle.quantities.specs.Linear.{fit}
-use Rattle.formats.proofs.Laws.SinkLines.{root-stored}
+use Rattle.quantities.specs.Inner.Linear.{fit}
+use Rattle.formats.proofs.Laws.Nets.SinkLines.{root-stored}
 use Rattle.formats.proofs.read_net.read_rest.Statement.{statement}
 use Rattle.formats.proofs.read_net.read_rest.Tie as tie
 

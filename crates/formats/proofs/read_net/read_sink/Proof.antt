@@ -11,20 +11,22 @@ use mir.Val.{toZ, ofZ}
 use mir.Facts.{toZ-ofZ}
 use borrow.Author.Needs.{needs}
 use borrow.Author.Tests.{not-true, not-false}
-use Rattle.quantities.specs.Linear.{fit}
+use Rattle.quantities.specs.Inner.Linear.{fit}
 use Rattle.quantities.specs.declared.point.Point.{Point}
 use Rattle.tree.specs.Limits.{positionLimit, requiredLimit}
 use Rattle.formats.specs.Line.{lineIn}
 use Rattle.formats.specs.NetText.{sinkKey, sinkRanges}
-use Rattle.formats.specs.Ranging.{listed}
-use Rattle.formats.specs.Scanning.{lineAt}
+use Rattle.formats.specs.Inner.Ranging.{listed}
+use Rattle.formats.specs.Inner.Scanning.{lineAt}
 use Rattle.formats.specs.declared.scan.Numbers.{Numbers}
 use Rattle.formats.specs.declared.scan.Line.the-variants.{Spelt}
 use Rattle.formats.specs.declared.reader.Place.{Place}
-use Rattle.formats.proofs.Laws.Due.{around-narrow, passed, failed}
-use Rattle.formats.proofs.Laws.Taking.{wrong-line, right-line}
-use Rattle.formats.proofs.Laws.Heads.{Taken, taken-small, taken-next, point-within}
-use Rattle.formats.proofs.Laws.SinkLines.{sink-wrong, sink-out, sink-far, sink-near}
+use Rattle.formats.specs.declared.refusal.Text.the-variants.{InNet}
+use Rattle.formats.proofs.Laws.Numbers.Ranges.{around-narrow}
+use Rattle.formats.proofs.Laws.Lines.Due.{passed, failed}
+use Rattle.formats.proofs.Laws.Lines.Taking.{wrong-line, right-line}
+use Rattle.formats.proofs.Laws.Lines.TakenLines.{Taken, taken-small, taken-next, point-within}
+use Rattle.formats.proofs.Laws.Nets.SinkLines.{sink-wrong, sink-out, sink-far, sink-near}
 use Rattle.formats.proofs.read_net.read_sink.Statement.{statement}
 use Rattle.formats.proofs.read_net.read_sink.Tie as tie
 
@@ -89,17 +91,17 @@ taken c =
     }
 
 value-requires : tie.Need-value-requires
-value-requires c κs = taken-small (taken c) .0
+value-requires c κs = taken-small InNet (taken c) .0
 
 value-requires-2 : tie.Need-value-requires-2
-value-requires-2 c κs = taken-small (taken (c .before)) .1 .0
+value-requires-2 c κs = taken-small InNet (taken (c .before)) .1 .0
 
 is-far-requires : tie.Need-is-far-requires
 is-far-requires c κs =
     let e = c .before .before in
     let v = c .before .value in
     let w = c .value2 in
-    (start (line e) .pre .2, point-within (taken e) _ (toZ-ofZ (fit (v .result) (v .ok)) ∙ v .ensures) (toZ-ofZ (fit (w .result) (w .ok)) ∙ w .ensures))
+    (start (line e) .pre .2, point-within InNet (taken e) _ (toZ-ofZ (fit (v .result) (v .ok)) ∙ v .ensures) (toZ-ofZ (fit (w .result) (w .ok)) ∙ w .ensures))
 
 returns-3 : tie.Need-returns-3
 returns-3 c =
@@ -130,10 +132,10 @@ slice-set-from-y : tie.Need-slice-set-from-y
 slice-set-from-y c = search needs
 
 value-requires-3 : tie.Need-value-requires-3
-value-requires-3 c κs = taken-small (taken (near c)) .1 .1 .0
+value-requires-3 c κs = taken-small InNet (taken (near c)) .1 .1 .0
 
-mul-t25 : tie.Need-mul-t25
-mul-t25 c = mul-x (c .before)
+mul-t31 : tie.Need-mul-t31
+mul-t31 c = mul-x (c .before)
 
 slice-set-from-required : tie.Need-slice-set-from-required
 slice-set-from-required c = search needs
@@ -162,9 +164,11 @@ returns-4 c =
       x = _;
       y = _;
       a = _;
-      reads = λ l cont. sink-near (root n) (text n) (here n) (numbers n) (next n .at) (taken e) _ (x ∙ v .ensures) (y ∙ w .ensures) (sym (d .before .before .if2 .left) ∙ d .before .before .before .is-far .ensures) l cont;
-      within = taken-next (taken e) (p .pre .0) .1;
-      line-is = there n .1;
+      read-to = record {
+        reads = sink-near (root n) (text n) (here n) (numbers n) (next n .at) (taken e) _ (x ∙ v .ensures) (y ∙ w .ensures) (sym (d .before .before .if2 .left) ∙ d .before .before .before .is-far .ensures);
+        within = taken-next InNet (taken e) (p .pre .0) .1;
+        line-is = there n .1;
+      };
       xs-is = ap (set (now (p .args .xs)) (p .args .s)) (ap (λ (z : ℤ). toZ w64 (ofZ w64 z)) x ∙ x ∙ v .ensures);
       ys-is = ap (set (now (p .args .ys)) (p .args .s)) (ap (λ (z : ℤ). toZ w64 (ofZ w64 z)) y ∙ y ∙ w .ensures);
       required-is = ap (set (now (p .args .required)) (p .args .s)) (toZ-ofZ (fit (u .result) (u .ok)) ∙ u .ensures);
@@ -190,7 +194,7 @@ read-sink-spec =
     mul-y
     slice-set-from-y
     value-requires-3
-    mul-t25
+    mul-t31
     slice-set-from-required
     same-length
     same-length-2

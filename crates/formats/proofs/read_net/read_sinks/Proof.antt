@@ -1,16 +1,18 @@
 -- The sinks' lines are read into the arrays, or refused as due: `done` sinks stand there, and the lines left come to the same net (Sinking).
 use Prim.Native.Nat.{_-_}
 use mathlib.Core.Path.{_≡_, refl, sym, _∙_}
-use lib.ListN.{length}
+use lib.ListN.{length, drop}
+use denote.Ref.{now}
+use Rattle.tree.specs.Inner.Arrays.{pointAt}
 use borrow.Author.Needs.{needs}
 use borrow.Author.Tests.{ltb-true, ltb-false}
-use Rattle.formats.proofs.Laws.SinkLines.{Sinking, sinking-start, sinking-refused, sinking-more, sinking-left, sinking-end}
+use Rattle.formats.proofs.Laws.Nets.SinkLines.{Sinking, sinking-start, sinking-refused, sinking-more, sinking-left, sinking-end, rest-held, rest-refused}
 use Rattle.formats.proofs.read_net.read_sinks.Statement.{statement}
 use Rattle.formats.proofs.read_net.read_sinks.Tie as tie
 
 abbrev Inv-loop : tie.InvT-loop
 Inv-loop text root n xs₀ ys₀ required₀ here₀ done₀ xs ys required here done =
-    Sinking root n text (here₀ .at) xs ys required here done
+    Sinking root n text (here₀ .at) (pointAt xs₀ ys₀ 0) xs ys required here done
     × (length xs ≡ length xs₀)
     × (length ys ≡ length ys₀)
     × (length required ≡ length required₀)
@@ -21,7 +23,7 @@ abbrev μ-loop : tie.MeasureT-loop
 loop-holds : tie.Need-loop-holds Inv-loop μ-loop
 loop-holds c =
     let b = c .before in
-    (sinking-start _ (b .args .n) _ (b .args .from) _ _ _ (b .pre .0 .1) (b .pre .0 .2) (b .pre .1 .0) (b .pre .1 .1) (b .pre .1 .2) (b .pre .2), refl, refl, refl)
+    (sinking-start _ (b .args .n) _ (b .args .from) _ _ _ (b .pre .0 .1) (b .pre .0 .2) (b .pre .1 .0) (b .pre .1 .1) (b .pre .1 .2), refl, refl, refl)
 
 add-read-sink : tie.Need-add-read-sink Inv-loop μ-loop
 add-read-sink c = search needs
@@ -32,8 +34,8 @@ read-sink-requires c κs = search needs
 enum-known-next : tie.Need-enum-known-next Inv-loop μ-loop
 enum-known-next c = search needs
 
-enum-known-number : tie.Need-enum-known-number Inv-loop μ-loop
-enum-known-number c = search needs
+enum-known-refusal : tie.Need-enum-known-refusal Inv-loop μ-loop
+enum-known-refusal c = search needs
 
 same-length : tie.Need-same-length Inv-loop μ-loop
 same-length c = search needs
@@ -45,11 +47,12 @@ same-length-3 : tie.Need-same-length-3 Inv-loop μ-loop
 same-length-3 c = search needs
 
 returns : tie.Need-returns Inv-loop μ-loop
-returns c =
+returns c h =
     let k = c .before .before .before .before .before .before in
     let v = k .before .before .before .before .before .loop in
-    let g = c .before .number .given in
-    sinking-refused _ _ _ _ _ _ _ (v .here) (v .done) (v .inv .0) (k .before .before .before .before .loop-test .taken) (g .0 .0) (rw (g .1) at (k .read-sink .ensures))
+    let g = c .before .refusal .given in
+    let a = k .before .before .before .before .before .before .before .args in
+    rest-refused h (a .root) (a .n) (drop (a .from .at) (now (a .text))) (g .0 .0) (sinking-refused _ _ _ _ _ _ _ _ (v .here) (v .done) (v .inv .0) (k .before .before .before .before .loop-test .taken) (g .0 .0) (rw (g .1) at (k .read-sink .ensures)))
 
 add-done : tie.Need-add-done Inv-loop μ-loop
 add-done c = search needs
@@ -63,7 +66,7 @@ loop-again c =
     let v = k .before .before .before .before .before .loop in
     let g = c .before .next .given in
     let p = k .read-sink in
-    (sinking-more _ _ _ _ _ _ _ (v .here) (v .done) (v .inv .0) (k .before .before .before .before .loop-test .taken) (g .0 .0) _ _ _ (rw (g .1) at (p .ensures)), p .kept .1 .1 .1 .1 .0 ∙ v .inv .1, p .kept .1 .1 .1 .1 .1 .0 ∙ v .inv .2, p .kept .1 .1 .1 .1 .1 .1 .0 ∙ v .inv .3)
+    (sinking-more _ _ _ _ _ _ _ _ (v .here) (v .done) (v .inv .0) (k .before .before .before .before .loop-test .taken) (g .0 .0) _ _ _ (rw (g .1) at (p .ensures)), p .kept .1 .1 .1 .1 .0 ∙ v .inv .1, p .kept .1 .1 .1 .1 .1 .0 ∙ v .inv .2, p .kept .1 .1 .1 .1 .1 .1 .0 ∙ v .inv .3)
 
 bytes-follow-requires : tie.Need-bytes-follow-requires Inv-loop μ-loop
 bytes-follow-requires c κs = search needs
@@ -78,9 +81,10 @@ same-length-6 : tie.Need-same-length-6 Inv-loop μ-loop
 same-length-6 c = search needs
 
 returns-2 : tie.Need-returns-2 Inv-loop μ-loop
-returns-2 c =
+returns-2 c h =
     let v = c .before .before .before .loop in
-    sinking-left _ _ _ _ _ _ _ (v .here) (v .done) (v .inv .0) (c .before .before .loop-test .left) (ltb-true _ _ (sym (c .before .bytes-follow .ensures) ∙ c .if1 .taken))
+    let a = c .before .before .before .before .before .args in
+    rest-refused h (a .root) (a .n) (drop (a .from .at) (now (a .text))) _ (sinking-left _ _ _ _ _ _ _ _ (v .here) (v .done) (v .inv .0) (c .before .before .loop-test .left) (ltb-true _ _ (sym (c .before .bytes-follow .ensures) ∙ c .if1 .taken)))
 
 same-length-7 : tie.Need-same-length-7 Inv-loop μ-loop
 same-length-7 c = search needs
@@ -92,9 +96,11 @@ same-length-9 : tie.Need-same-length-9 Inv-loop μ-loop
 same-length-9 c = search needs
 
 returns-3 : tie.Need-returns-3 Inv-loop μ-loop
-returns-3 c =
+returns-3 c h =
     let v = c .before .before .before .loop in
-    sinking-end _ _ _ _ _ _ _ (v .here) (v .done) (v .inv .0) (c .before .before .loop-test .left) (ltb-false _ _ (sym (c .before .bytes-follow .ensures) ∙ c .if1 .left))
+    let b = c .before .before .before .before .before in
+    let a = b .args in
+    rest-held h (a .root) (a .n) (drop (a .from .at) (now (a .text))) (v .xs) (v .ys) (v .required) (v .inv .0 .origin-is ∙ b .pre .2) (sinking-end _ _ _ _ _ _ _ _ (v .here) (v .done) (v .inv .0) (c .before .before .loop-test .left) (ltb-false _ _ (sym (c .before .bytes-follow .ensures) ∙ c .if1 .left)))
 
 pub read-sinks-spec : {M : Type 1} → statement M
 read-sinks-spec =
@@ -106,7 +112,7 @@ read-sinks-spec =
     add-read-sink
     read-sink-requires
     enum-known-next
-    enum-known-number
+    enum-known-refusal
     same-length
     same-length-2
     same-length-3

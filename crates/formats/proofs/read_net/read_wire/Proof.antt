@@ -1,105 +1,100 @@
--- Line 3 of a net and those after it, by what the scanner and the range tell. No loop.
-use Prim.Native.Nat.{ℕ, _+_}
-use mathlib.Core.Path.{_≡_, sym, _∙_}
-use mathlib.Core.Logic.{inl}
-use mathlib.Core.List.{List, [], _∷_}
-use lib.ListN.{drop}
-use denote.Ref.{now}
+-- Line 3 of a net and those after it, by what is read on it and what the lines after it come to. No loop.
+use mathlib.Core.Path.{sym, subst, ap, _∙_}
 use native.Mathlib.Omega.{arith}
-use borrow.Author.Needs.{needs}
-use borrow.Author.Tests.{not-true, not-false}
-use Rattle.quantities.specs.Linear.{up}
+use lib.IntN.{natAbs}
+use denote.Ref.{now}
+use mir.Syntax.{w64}
+use mir.Val.{SFits}
+use mir.Facts.{toZ-ofZ}
+use Rattle.quantities.specs.Inner.Linear.{up, whole, natAbs-is}
 use Rattle.tree.specs.Limits.{wireFactorLimit}
-use Rattle.formats.specs.Line.{lineIn}
-use Rattle.formats.specs.NetText.{wireKey, upTo}
-use Rattle.formats.specs.Scanning.{lineAt}
-use Rattle.formats.specs.declared.scan.Numbers.{Numbers}
-use Rattle.formats.specs.declared.scan.Line.the-variants.{Spelt}
+use Rattle.formats.specs.Reading.{upTo}
+use Rattle.formats.specs.NetText.{wireKey}
+use Rattle.formats.specs.Inner.Ranging.{Narrow}
+use Rattle.formats.specs.Inner.Readers.{NumberTaken}
+use Rattle.formats.specs.declared.refusal.Text.the-variants.{InNet}
 use Rattle.formats.specs.declared.reader.Place.{Place}
-use Rattle.formats.proofs.Laws.Due.{from-narrow}
-use Rattle.formats.proofs.Laws.Taking.{wrong-line, right-line}
-use Rattle.formats.proofs.Laws.Heads.{Taken, taken-next, heads-wrong, heads-out, wire-read}
+use Rattle.formats.proofs.Laws.Numbers.Ranges.{from-narrow}
+use Rattle.formats.proofs.Laws.Lines.Due.{inside-bounds}
+use Rattle.formats.proofs.Laws.Lines.TakenLines.{said-refused, said-taken}
+use Rattle.formats.proofs.Laws.Nets.Heads.{says-by, wire-refused, wire-read}
+use borrow.Author.Needs.{needs}
 use Rattle.formats.proofs.read_net.read_wire.Statement.{statement}
 use Rattle.formats.proofs.read_net.read_wire.Tie as tie
 
-abbrev start : tie.After-known-told → tie.Start
-start t = t .before .before .before .before .before .before
+slice-aggregate-read-number : tie.Need-slice-aggregate-read-number
+slice-aggregate-read-number c = search needs
 
-abbrev text : tie.After-known-told → List ℕ
-text t = now (start t .args .text)
+up-to-requires : tie.Need-up-to-requires
+up-to-requires c κs = search needs
 
-abbrev here : tie.After-known-told → Place
-here t = start t .args .here
+read-number-requires : tie.Need-read-number-requires
+read-number-requires c κs =
+    let p = c .before .before .before .pre in
+    (p .0, omega (arith, p .1), subst Narrow (sym (c .up-to .ensures)) (from-narrow wireFactorLimit (omega arith) 1))
 
-abbrev numbers : tie.After-known-told → Numbers
-numbers t = t .before .numbers .given .0 .0
+enum-known-refusal : tie.Need-enum-known-refusal
+enum-known-refusal c = search needs
 
-abbrev next : tie.After-known-told → Place
-next t = t .before .numbers .given .0 .1 .0
+enum-known-value : tie.Need-enum-known-value
+enum-known-value c = search needs
 
-slice-aggregate-read-line : tie.Need-slice-aggregate-read-line
-slice-aggregate-read-line c = search needs
+-- the line has a number in its range
+abbrev next : tie.After-known-told2 → Place
+next t = t .before .value .given .0 .1 .0
 
-read-line-requires : tie.Need-read-line-requires
-read-line-requires c κs = search needs
+taken : (t : tie.After-known-told2) → NumberTaken InNet wireKey (upTo wireFactorLimit) (now (t .before .before .before .before .before .before .before .args .text)) (t .before .before .before .before .before .before .before .args .here) (t .before .value .given .0 .0) (next t)
+taken t =
+    let a = t .before .before .before .before .before .before .before .args in
+    let g = t .before .value .given in
+    said-taken InNet wireKey _ (upTo wireFactorLimit) (t .before .before .before .before .up-to .ensures) (now (a .text)) (a .here) _ (t .before .before .before .read-number .ensures) (g .0 .0) (g .0 .1 .0) (g .1)
 
-enum-known-numbers : tie.Need-enum-known-numbers
-enum-known-numbers c = search needs
+-- the number is at least 1, so that it is read back as it is
+small : (t : tie.After-known-told2) → SFits w64 (t .before .value .given .0 .0)
+small t = let b = inside-bounds (upTo wireFactorLimit) (t .before .value .given .0 .0) (taken t .in-range) in omega (arith, whole, b .0, b .1)
 
-enum-told : tie.Need-enum-told
-enum-told c = search needs
-
-returns : tie.Need-returns
-returns c =
-    let b = c .before .before .before .before .before in
-    let h = b .args .here in
-    heads-wrong 3 wireKey (upTo wireFactorLimit ∷ []) (now (b .args .text)) (h .at) _ (h .line) (b .pre .1) (wrong-line wireKey 1 (now (b .args .text)) (h .at) (h .line) (sym (c .enum-told .given .1) ∙ c .before .before .read-line .ensures))
-
-there : (t : tie.After-known-told) → (Spelt (numbers t) (next t .at) ≡ lineAt (here t .at) (lineIn wireKey 1 (drop (here t .at) (text t)))) × (next t .line ≡ here t .line + 1)
-there t = right-line wireKey 1 (text t) (here t .at) (here t .line) (numbers t) (next t) (sym (t .before .numbers .given .1) ∙ t .before .before .before .read-line .ensures)
-
-is-up-to-requires : tie.Need-is-up-to-requires
-is-up-to-requires c κs = search needs
-
-returns-2 : tie.Need-returns-2
-returns-2 c =
-    let t = c .before .before .before in
-    heads-out 3 wireKey (upTo wireFactorLimit ∷ []) (text t) (here t .at) _ (here t .line) (start t .pre .1) (omega arith) (numbers t) (next t .at) (there t .0) (inl (λ z e. sym (not-true _ (c .if1 .taken)) ∙ c .before .is-up-to .ensures z e))
-
-taken : (c : tie.Else1) → Taken wireKey (upTo wireFactorLimit ∷ []) (text (c .before .before .before)) (here (c .before .before .before) .at) (numbers (c .before .before .before)) (next (c .before .before .before) .at)
-taken c =
-    record {
-      few = omega arith;
-      spelt = there (c .before .before .before) .0;
-      narrow = (from-narrow wireFactorLimit (omega arith) 1, tt);
-      passed = ((λ z e. sym (not-false _ (c .if1 .left)) ∙ c .before .is-up-to .ensures z e), tt);
-    }
+cast-of : tie.Need-cast-of
+cast-of c =
+    let z = c .before .value .given .0 .0 in
+    let b = inside-bounds (upTo wireFactorLimit) z (taken c .in-range) in
+    rw (toZ-ofZ (small c)) (omega (arith, whole, b .0, b .1), omega (arith, whole, natAbs-is z, b .0, b .1))
 
 of-requires : tie.Need-of-requires
 of-requires c κs = search needs
 
 read-need-requires : tie.Need-read-need-requires
 read-need-requires c κs =
-    let e = c .before in
-    let t = e .before .before .before in
-    (taken-next (taken e) (start t .pre .0) .1, omega (arith, there t .1, start t .pre .1), start t .pre .2)
+    let b = c .before .before .before .before .before .before .before .before in
+    let t = taken (c .before) .read-to in
+    (t .within, omega (arith, t .line-is, b .pre .1), b .pre .2)
 
-returns-3 : tie.Need-returns-3
-returns-3 c =
-    let a = c .before .before .before .before .before .before .before .before .before .before .before .args in
-    wire-read _ _ _ _ (taken (c .before .before)) (a .root) (up (a .branch .0)) _ (c .before .of .ensures) _ (c .read-need .ensures)
+returns : tie.Need-returns
+returns c =
+    let b = c .before .before .before .before .before .before .before in
+    let a = b .args in
+    let g = c .before .refusal .given in
+    wire-refused (now (a .text)) (a .here) (a .root) (up (a .branch .0)) (b .pre .1) (g .0 .0) (said-refused InNet wireKey _ (upTo wireFactorLimit) (c .before .before .before .before .up-to .ensures) (now (a .text)) (a .here) _ (c .before .before .before .read-number .ensures) (g .0 .0) (g .1))
+
+returns-2 : tie.Need-returns-2
+returns-2 c =
+    let b = c .before .before .before .before .before .before .before .before .before in
+    let a = b .args in
+    let t = c .before .before in
+    says-by (now (a .text)) (c .read-need .result)
+    (wire-read (now (a .text)) (a .here) (a .root) (up (a .branch .0)) (b .pre .1) (t .before .value .given .0 .0) (next t) (taken t) _ (c .before .of .ensures ∙ ap natAbs (toZ-ofZ (small (c .before .before)))))
+    (c .read-need .ensures)
 
 pub read-wire-spec : {M : Type 1} → statement M
 read-wire-spec =
     tie.close
     (tie.spec
-    slice-aggregate-read-line
-    read-line-requires
-    enum-known-numbers
-    enum-told
-    returns
-    is-up-to-requires
-    returns-2
+    slice-aggregate-read-number
+    up-to-requires
+    read-number-requires
+    enum-known-refusal
+    enum-known-value
+    cast-of
     of-requires
     read-need-requires
-    returns-3)
+    returns
+    returns-2)

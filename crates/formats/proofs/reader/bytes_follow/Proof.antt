@@ -1,6 +1,5 @@
--- `formats::reader::bytes_follow` meets its contract: a walk of its MIR, by hand. A `LineReader` that one call returns is held in a local and passed to the next. All that the proof knows of `reader` and of `has_more` is that each meets its contract.
--- The machine value that `reader` returns is stored and passed on as it is. In a local of a body MIR erases the lifetime of the struct's type, so the value is shown to have the type at `erased`: what the struct owns does not say the lifetime's name.
--- Assumes nothing.
+-- Whether bytes follow at a place: a reader is made there, and `has_more` tells. No loop.
+-- A walk by hand: the machine value that `reader` returns is stored and passed on as it is. In a local of a body MIR erases the lifetime of the struct's type, so the value is shown to have the type at `erased`: what the struct owns does not say the lifetime's name.
 use mathlib.Core.Path.{_≡_, refl, ap, _∙_}
 use Prim.Native.Nat.{ℕ, _<_, _^_}
 use mathlib.Core.List.{List, [], _∷_}

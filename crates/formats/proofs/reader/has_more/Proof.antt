@@ -1,6 +1,5 @@
--- `formats::reader::has_more` meets its contract: a walk of its MIR, by hand. The struct is taken apart, and `has_byte` is called on the slice and the number. All that the proof knows of `has_byte` is that it meets its contract.
--- The struct is Copy: what it owns is had twice, one copy is kept whole for the exit, and of the other what the text owns goes to the callee, beside the lifetime's token, which comes back.
--- Assumes nothing.
+-- Whether the text goes on where the reader has come to: `has_byte` tells, of the reader's text and position. No loop.
+-- A walk by hand: the struct is Copy, so what it owns is had twice; one copy is kept whole for the exit, and of the other what the text owns goes to the callee, beside the lifetime's token, which comes back.
 use mathlib.Core.Path.{_≡_, refl}
 use Prim.Native.Nat.{_<_, _^_}
 use mathlib.Core.Bool.{Bool}

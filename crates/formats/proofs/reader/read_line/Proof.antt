@@ -1,6 +1,5 @@
--- `formats::reader::read_line` meets its contract: a walk of its MIR, by hand. A `LineReader` that one call returns is held in a local and passed to the next, with the key and the count. All that the proof knows of `reader` and of `take_line` is that each meets its contract.
--- The machine value that `reader` returns is stored and passed on as it is. In a local of a body MIR erases the lifetime of the struct's type, so the value is shown to have the type at `erased`: what the struct owns does not say the lifetime's name. `reader` takes the token of the text's lifetime alone; that of the key's is kept for `take_line`.
--- Assumes nothing.
+-- A line is taken as due or not: a reader is made at its place, and `take_line` tells. No loop.
+-- A walk by hand: the machine value that `reader` returns is stored and passed on as it is. In a local of a body MIR erases the lifetime of the struct's type, so the value is shown to have the type at `erased`: what the struct owns does not say the lifetime's name. `reader` takes the token of the text's lifetime alone; that of the key's is kept for `take_line`.
 use mathlib.Core.Path.{_≡_, refl, sym, ap, _∙_, subst}
 use Prim.Native.Nat.{ℕ, _+_, _^_, _≤_, _<_}
 use mathlib.Core.List.{List, [], _∷_}
@@ -39,7 +38,7 @@ use denote.Triple.Walked.{says, needs, Stays, stay-none, stay-none-slice, walkOf
 use denote.Exit.{yes}
 use denote.Triple.Clauses.{ensured, lasts}
 use Rattle.formats.specs.Line.{lineIn}
-use Rattle.formats.specs.Scanning.{takenAt}
+use Rattle.formats.specs.Inner.Scanning.{takenAt}
 use Rattle.formats.specs.declared.reader.LineReader.{LineReader}
 use Rattle.formats.specs.declared.reader.Taken.{Taken}
 use Rattle.formats.proofs.reader.LineReader as T

@@ -1,6 +1,5 @@
--- `formats::reader::reader` meets its contract: a walk of its MIR, by hand. A `LineReader` is made of the slice and the numbers passed, in the result's local.
--- A `&[u8]` is Copy, so what it owns is had twice: once for text at exit, and once inside the result, beside the facts of at and line.
--- Assumes nothing.
+-- A reader holds the text, the position and the line number that it is made of. No loop.
+-- A walk by hand: a `&[u8]` is Copy, so what it owns is had twice, once for text at exit, and once inside the result, beside the facts of at and line.
 use mathlib.Core.Path.{refl}
 use Prim.Native.Nat.{ℕ, _<_, _^_}
 use mathlib.Core.List.{List, [], _∷_}

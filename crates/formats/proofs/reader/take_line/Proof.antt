@@ -1,6 +1,5 @@
--- `formats::reader::take_line` meets its contract: a walk of its MIR, by hand. The struct is taken apart, and `taken_at` is called on its fields, the key and the count. All that the proof knows of `taken_at` is that it meets its contract.
--- The struct and the key are Copy: what each owns is had twice, and one copy is kept whole for the exit. The tokens of both lifetimes go to the callee, and come back.
--- Assumes nothing.
+-- The line that the reader has come to is as due or not: `taken_at` tells, of the reader's text, position and line. No loop.
+-- A walk by hand: the struct and the key are Copy, so what each owns is had twice, and one copy is kept whole for the exit. The tokens of both lifetimes go to the callee, and come back.
 use mathlib.Core.Path.{_≡_, refl}
 use Prim.Native.Nat.{ℕ, _+_, _^_, _≤_, _<_}
 use mathlib.Core.List.{List, [], _∷_}
@@ -44,7 +43,7 @@ use denote.Triple.Walked.{says, needs, Stays, stay-none, stay-none-slice, walkOf
 use denote.Exit.{yes}
 use denote.Triple.Clauses.{ensured, lasts}
 use Rattle.formats.specs.Line.{lineIn}
-use Rattle.formats.specs.Scanning.{takenAt}
+use Rattle.formats.specs.Inner.Scanning.{takenAt}
 use Rattle.formats.specs.declared.reader.LineReader.{LineReader}
 use Rattle.formats.specs.declared.reader.Taken.{Taken}
 use Rattle.formats.proofs.reader.LineReader as T

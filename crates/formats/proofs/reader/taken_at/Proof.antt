@@ -1,9 +1,10 @@
+-- A line is as due or not, as the scanner tells; the next line's place is where it ends, and its number one more. No loop.
 use mathlib.Core.Path.{sym, _∙_}
 use lib.ListN.{drop}
 use denote.Ref.{now}
 use borrow.Author.Needs.{needs}
 use Rattle.formats.specs.Line.{lineIn}
-use Rattle.formats.proofs.Laws.Taking.{not-due, as-due}
+use Rattle.formats.proofs.Laws.Lines.Taking.{not-due, as-due}
 use Rattle.formats.proofs.reader.taken_at.Statement.{statement}
 use Rattle.formats.proofs.reader.taken_at.Tie as tie
 

@@ -1,4 +1,4 @@
--- The measure is how many numbers are to be read.
+-- A row of numbers is read or misspelled: the first number, then the rest by the function itself, with one number less to read.
 use Prim.Native.Nat.{ℕ, _<_, _≤_}
 use mathlib.Core.Path.{sym, _∙_}
 use lib.ListN.{length}
@@ -7,8 +7,8 @@ use denote.Ref.{now}
 use borrow.Fn.Kinds.{In}
 use borrow.Fn.PlainCycle.{Measures, is, falls, and}
 use borrow.Author.Needs.{needs}
-use Rattle.formats.proofs.Laws.Spelling.{then-ends}
-use Rattle.formats.proofs.Laws.Rows.{one-wrong, one-right, more-wrong, more-rest-wrong, more-right}
+use Rattle.formats.proofs.Laws.Numbers.Spelling.{then-ends}
+use Rattle.formats.proofs.Laws.Lines.Rows.{one-wrong, one-right, more-wrong, more-rest-wrong, more-right}
 use Rattle.formats.proofs.scan.row_at.Reads as row-at
 use Rattle.formats.proofs.scan.row_at.Kinds as row-at-kinds
 use Rattle.formats.proofs.scan.+row_at.Lts-row_at as row-at-lts

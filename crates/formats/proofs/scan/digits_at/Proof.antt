@@ -1,8 +1,9 @@
+-- A run of digits is read to its end: the number so far and the digits left come to the number of the whole run, up to the cap (Going).
 use borrow.Author.Needs.{needs}
 use Prim.Native.Nat.{_-_}
 use lib.ListN.{length}
-use Rattle.formats.proofs.Laws.Digits.{digit-range, lead-end, lead-other}
-use Rattle.formats.proofs.Laws.Saturation.{Going, going-start, going-more, going-stop}
+use Rattle.formats.proofs.Laws.Numbers.Digits.{digit-range, lead-end, lead-other}
+use Rattle.formats.proofs.Laws.Numbers.Saturation.{Going, going-start, going-more, going-stop}
 use borrow.Author.Tests.{not-true, not-false}
 use mathlib.Core.Path.{sym, _∙_}
 use Rattle.formats.proofs.scan.digits_at.Statement.{statement}

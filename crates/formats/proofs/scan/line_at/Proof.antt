@@ -1,3 +1,4 @@
+-- A line is spelt as due or not: its key first, then the row of numbers after it. No loop.
 use mathlib.Core.Path.{_≡_, sym, _∙_}
 use mathlib.Core.Bool.{true}
 use lib.ListN.{drop}
@@ -5,8 +6,8 @@ use denote.Ref.{now}
 use borrow.Author.Needs.{needs}
 use borrow.Author.Tests.{not-true, not-false}
 use Rattle.formats.specs.Line.{begins}
-use Rattle.formats.proofs.Laws.Keys.{begins-within}
-use Rattle.formats.proofs.Laws.Rows.{line-wrong, line-right}
+use Rattle.formats.proofs.Laws.Lines.Keys.{begins-within}
+use Rattle.formats.proofs.Laws.Lines.Rows.{line-wrong, line-right}
 use Rattle.formats.proofs.scan.line_at.Statement.{statement}
 use Rattle.formats.proofs.scan.line_at.Tie as tie
 

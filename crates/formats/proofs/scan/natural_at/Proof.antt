@@ -1,5 +1,6 @@
+-- Digits spell a number or not: no digit, a 0 with a sign, a 0 before more digits, a 0 alone, or no 0 first, case by case. No loop.
 use borrow.Author.Needs.{needs}
-use Rattle.formats.proofs.Laws.Spelling.{run-within, by-none, by-sign, by-long, by-zero, by-plain}
+use Rattle.formats.proofs.Laws.Numbers.Spelling.{run-within, by-none, by-sign, by-long, by-zero, by-plain}
 use Rattle.formats.proofs.scan.natural_at.Statement.{statement}
 use Rattle.formats.proofs.scan.natural_at.Tie as tie
 

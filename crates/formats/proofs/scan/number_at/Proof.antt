@@ -1,6 +1,7 @@
+-- A number is read or misspelt: after a minus sign or without one, by the byte that stands there. No loop.
 use borrow.Author.Needs.{needs}
 use mathlib.Core.Path.{_∙_}
-use Rattle.formats.proofs.Laws.Spelling.{by-minus, by-digit, past-end}
+use Rattle.formats.proofs.Laws.Numbers.Spelling.{by-minus, by-digit, past-end}
 use mathlib.Core.Logic.{⊎-elim}
 use Rattle.formats.proofs.scan.number_at.Statement.{statement}
 use Rattle.formats.proofs.scan.number_at.Tie as tie

@@ -1,7 +1,8 @@
+-- A number with the stop byte after it is read, or not: no number, the end of the text, or another byte there. No loop.
 use borrow.Author.Needs.{needs}
 use denote.Ref.{now}
 use mathlib.Core.Path.{sym, _∙_}
-use Rattle.formats.proofs.Laws.Spelling.{then-wrong, then-short, then-unlike, then-like}
+use Rattle.formats.proofs.Laws.Numbers.Spelling.{then-wrong, then-short, then-unlike, then-like}
 use Rattle.formats.proofs.scan.number_then.Statement.{statement}
 use Rattle.formats.proofs.scan.number_then.Tie as tie
 

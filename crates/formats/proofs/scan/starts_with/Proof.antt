@@ -1,7 +1,8 @@
+-- Whether the key stands there: the first i bytes are the same, so the rest of the key and of the text decide (Same).
 use borrow.Author.Needs.{needs}
 use Prim.Native.Nat.{_-_}
 use lib.ListN.{length}
-use Rattle.formats.proofs.Laws.Keys.{Same, same-start, same-more, same-end, same-short, same-not}
+use Rattle.formats.proofs.Laws.Lines.Keys.{Same, same-start, same-more, same-end, same-short, same-not}
 use Rattle.formats.proofs.scan.starts_with.Statement.{statement}
 use Rattle.formats.proofs.scan.starts_with.Tie as tie
 

@@ -1,3 +1,4 @@
+-- The digits of n are put: one digit alone, or those of n / 10 by the function itself, which is less than n, and the last one after them.
 use Prim.Native.Nat.{ℕ, _+_, _/_, _%_, _<_}
 use mathlib.Core.List.{[], _∷_}
 use native.Mathlib.Omega.{arith}
@@ -5,7 +6,7 @@ use borrow.Fn.Kinds.{In}
 use borrow.Fn.PlainCycle.{Measures, is, falls, and}
 use borrow.Author.Needs.{needs}
 use Rattle.formats.specs.Decimal.{showNat}
-use Rattle.formats.proofs.Laws.Decimal.{showNat-small, showNat-large}
+use Rattle.formats.proofs.Laws.Numbers.Decimal.{showNat-small, showNat-large}
 use Rattle.formats.proofs.Laws.Writing.{fits-first, fits-next, puts-both}
 use Rattle.formats.proofs.write.put_natural.Reads as put-natural
 use Rattle.formats.proofs.write.put_natural.Kinds as put-natural-kinds

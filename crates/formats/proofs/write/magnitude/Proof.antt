@@ -1,7 +1,8 @@
+-- The magnitude of a number that can be written: by the test for its sign, and its negative fits. No loop.
 use native.Mathlib.Omega.{arith}
 use borrow.Author.Needs.{needs}
 use lib.IntN.{pos}
-use Rattle.quantities.specs.Linear.{whole, -is, natAbs-is, back-abs, rd}
+use Rattle.quantities.specs.Inner.Linear.{whole, -is, natAbs-is, back-abs, rd}
 use Rattle.formats.proofs.write.magnitude.Statement.{statement}
 use Rattle.formats.proofs.write.magnitude.Tie as tie
 

@@ -1,3 +1,4 @@
+-- One byte is put at its place, and what is put ends right after it: by the one store. No loop.
 use borrow.Author.Needs.{needs}
 use mathlib.Core.Path.{refl}
 use Rattle.formats.proofs.Laws.Writing.{over-one}

@@ -1,11 +1,11 @@
--- The invariant: the first i bytes of s are put.
+-- The bytes of s are put: the first i of them are.
 use Prim.Native.Nat.{_-_, _≤_}
 use mathlib.Core.Path.{_≡_, sym}
 use native.Mathlib.Numerals.{add-one}
 use borrow.Author.Needs.{needs}
 use lib.ListN.{length, take}
 use lib.Seq.{take-all}
-use Rattle.formats.specs.Writing.{over}
+use Rattle.formats.specs.Inner.Writing.{over}
 use Rattle.formats.proofs.Laws.Writing.{over-nil, over-take}
 use Rattle.formats.proofs.write.put_bytes.Statement.{statement}
 use Rattle.formats.proofs.write.put_bytes.Tie as tie

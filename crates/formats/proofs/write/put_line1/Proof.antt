@@ -1,7 +1,8 @@
+-- A line of one number is put: the key, and where it ends the number and the end byte. No loop.
 use borrow.Author.Needs.{needs}
 use mir.Facts.{toZ-ofZ}
 use Rattle.formats.specs.Bytes.{endByte}
-use Rattle.formats.specs.Writing.{oneThen}
+use Rattle.formats.specs.Inner.Writing.{oneThen}
 use Rattle.formats.proofs.Laws.Writing.{fits-first, fits-next, puts-both}
 use Rattle.formats.proofs.write.put_line1.Statement.{statement}
 use Rattle.formats.proofs.write.put_line1.Tie as tie

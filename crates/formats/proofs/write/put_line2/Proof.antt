@@ -1,7 +1,8 @@
+-- A line of two numbers is put: the key, and where it ends the two numbers and the end byte. No loop.
 use borrow.Author.Needs.{needs}
 use mir.Facts.{toZ-ofZ}
 use Rattle.formats.specs.Bytes.{endByte}
-use Rattle.formats.specs.Writing.{twoThen}
+use Rattle.formats.specs.Inner.Writing.{twoThen}
 use Rattle.formats.proofs.Laws.Writing.{fits-first, fits-next, puts-both}
 use Rattle.formats.proofs.write.put_line2.Statement.{statement}
 use Rattle.formats.proofs.write.put_line2.Tie as tie

@@ -1,10 +1,11 @@
+-- A line of four numbers is put: the key, the first two and the last two, each where what stands before it ends. No loop.
 use Prim.Native.Nat.{ℕ, _+_, _≤_}
 use mathlib.Core.List.{List, _++_}
 use lib.ListN.{length}
 use borrow.Author.Needs.{needs}
 use mir.Facts.{toZ-ofZ}
 use Rattle.formats.specs.Bytes.{endByte, comma}
-use Rattle.formats.specs.Writing.{Puts, twoThen}
+use Rattle.formats.specs.Inner.Writing.{Puts, twoThen}
 use Rattle.formats.proofs.Laws.Writing.{fits-first, fits-next, puts-both, line4-is}
 use Rattle.formats.proofs.write.put_line4.Statement.{statement}
 use Rattle.formats.proofs.write.put_line4.Tie as tie

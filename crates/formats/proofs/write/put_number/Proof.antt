@@ -1,3 +1,4 @@
+-- A number is put as it is spelt: a minus sign where it is negative, then the digits of its magnitude. No loop.
 use mathlib.Core.Path.{_≡_, ap, _∙_}
 use mathlib.Core.List.{[], _∷_}
 use native.Mathlib.Omega.{arith}
@@ -5,7 +6,7 @@ use borrow.Author.Needs.{needs}
 use lib.IntN.{ℤ, natAbs}
 use mir.Facts.{toZ-ofZ}
 use Rattle.formats.specs.Decimal.{showNat, show}
-use Rattle.formats.proofs.Laws.Decimal.{show-minus, show-plain}
+use Rattle.formats.proofs.Laws.Numbers.Decimal.{show-minus, show-plain}
 use Rattle.formats.proofs.Laws.Writing.{fits-next, puts-both}
 use Rattle.formats.proofs.write.put_number.Statement.{statement}
 use Rattle.formats.proofs.write.put_number.Tie as tie

@@ -1,3 +1,4 @@
+-- A number and the stop byte are put: the byte where the number ends. No loop.
 use mathlib.Core.List.{[], _∷_}
 use native.Mathlib.Omega.{arith}
 use borrow.Author.Needs.{needs}

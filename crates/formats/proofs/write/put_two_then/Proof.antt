@@ -1,7 +1,8 @@
+-- Two numbers with a comma and the stop byte are put: the second where the first and its comma end. No loop.
 use borrow.Author.Needs.{needs}
 use mir.Facts.{toZ-ofZ}
 use Rattle.formats.specs.Bytes.{comma}
-use Rattle.formats.specs.Writing.{oneThen}
+use Rattle.formats.specs.Inner.Writing.{oneThen}
 use Rattle.formats.proofs.Laws.Writing.{fits-first, fits-next, puts-both, two-is}
 use Rattle.formats.proofs.write.put_two_then.Statement.{statement}
 use Rattle.formats.proofs.write.put_two_then.Tie as tie

@@ -1,4 +1,4 @@
--- The three lines one after another: each is put where the one before it ends.
+-- The first three lines are put: each where the one before it ends. No loop.
 use Prim.Native.Nat.{ℕ, _+_, _≤_}
 use mathlib.Core.Path.{_≡_, ap, _∙_}
 use mathlib.Core.List.{List, [], _∷_, _++_}
@@ -8,15 +8,15 @@ use lib.ListN.{length}
 use lib.IntN.{pos}
 use mir.Syntax.{w64}
 use mir.Val.{toZ}
-use Rattle.quantities.specs.Linear.{rd}
+use Rattle.quantities.specs.Inner.Linear.{rd}
 use Rattle.tree.specs.Limits.{slackLimit}
 use Rattle.formats.specs.Line.{lineText}
 use Rattle.formats.specs.NetText.{wireKey, sinksKey}
 use Rattle.formats.specs.ListingText.{slackKey}
-use Rattle.formats.specs.Writing.{Puts}
-use Rattle.formats.proofs.Laws.Signs.{plain-back}
+use Rattle.formats.specs.Inner.Writing.{Puts}
+use Rattle.formats.proofs.Laws.Numbers.Signs.{plain-back}
 use Rattle.formats.proofs.Laws.Writing.{fits-first, fits-next, puts-both}
-use Rattle.formats.proofs.Laws.ListingWriting.{within-writable, within-back}
+use Rattle.formats.proofs.Laws.Listings.ListingWriting.{within-writable, within-back}
 use borrow.Author.Needs.{needs}
 use Rattle.formats.proofs.write_listing.put_head.Statement.{statement}
 use Rattle.formats.proofs.write_listing.put_head.Tie as tie

@@ -1,3 +1,4 @@
+-- The line of sink k is put: its two numbers fit, and the line of two numbers is the leaf's. No loop.
 use Prim.Native.Nat.{ℕ, _+_, _*_, _≤_, _<_}
 use mathlib.Core.Path.{_≡_, sym, subst}
 use mathlib.Core.List.{List, [], _∷_}
@@ -5,11 +6,11 @@ use native.Mathlib.Omega.{arith}
 use lib.ListN.{length, getD}
 use mir.Syntax.{w64}
 use mir.Val.{toZ}
-use Rattle.tree.specs.Arrays.{parentsOf}
+use Rattle.tree.specs.Inner.Arrays.{parentsOf}
 use Rattle.formats.specs.Line.{lineText}
 use Rattle.formats.specs.ListingText.{leafKey, leafText}
-use Rattle.formats.specs.Writing.{Puts}
-use Rattle.formats.proofs.Laws.ListingWriting.{natural-writable, parent-small, leaf-is}
+use Rattle.formats.specs.Inner.Writing.{Puts}
+use Rattle.formats.proofs.Laws.Listings.ListingWriting.{natural-writable, parent-small, leaf-is}
 use borrow.Author.Needs.{needs}
 use Rattle.formats.proofs.write_listing.put_leaf.Statement.{statement}
 use Rattle.formats.proofs.write_listing.put_leaf.Tie as tie

@@ -1,9 +1,9 @@
--- The invariant: the lines of the sinks below k are put.
+-- The leaves' lines are put: the lines of the sinks below k are (Putting).
 use Prim.Native.Nat.{suc, _-_}
 use native.Mathlib.Omega.{arith}
-use Rattle.tree.specs.Arrays.{parentsOf}
+use Rattle.tree.specs.Inner.Arrays.{parentsOf}
 use Rattle.formats.specs.ListingText.{leafText}
-use Rattle.formats.proofs.Laws.ListingWriting.{Putting, putting-starts, putting-ends, line-fits, putting-more}
+use Rattle.formats.proofs.Laws.Listings.ListingWriting.{Putting, putting-starts, putting-ends, line-fits, putting-more}
 use Rattle.formats.proofs.write_listing.put_leaves.Statement.{statement}
 use Rattle.formats.proofs.write_listing.put_leaves.Tie as tie
 

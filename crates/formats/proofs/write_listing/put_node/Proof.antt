@@ -1,3 +1,4 @@
+-- The line of branch point k is put: its four numbers fit, and the line of four numbers is the node's. No loop.
 use Prim.Native.Nat.{ℕ, _+_, _≤_, _<_}
 use mathlib.Core.Path.{_≡_, sym, subst}
 use mathlib.Core.List.{List, [], _∷_}
@@ -6,13 +7,13 @@ use lib.ListN.{length, getD}
 use lib.IntN.{ℤ, pos}
 use mir.Syntax.{w64}
 use mir.Val.{toZ}
-use Rattle.quantities.specs.Linear.{rd}
-use Rattle.tree.specs.Arrays.{treeOf}
+use Rattle.quantities.specs.Inner.Linear.{rd}
+use Rattle.tree.specs.Inner.Arrays.{treeOf}
 use Rattle.tree.specs.Limits.{positionLimit}
 use Rattle.formats.specs.Line.{lineText}
 use Rattle.formats.specs.ListingText.{nodeKey, nodeText}
-use Rattle.formats.specs.Writing.{Puts}
-use Rattle.formats.proofs.Laws.ListingWriting.{within-writable, within-back, natural-writable, parent-small, node-is}
+use Rattle.formats.specs.Inner.Writing.{Puts}
+use Rattle.formats.proofs.Laws.Listings.ListingWriting.{within-writable, within-back, natural-writable, parent-small, node-is}
 use borrow.Author.Needs.{needs}
 use Rattle.formats.proofs.write_listing.put_node.Statement.{statement}
 use Rattle.formats.proofs.write_listing.put_node.Tie as tie

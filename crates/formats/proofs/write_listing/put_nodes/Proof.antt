@@ -1,10 +1,10 @@
--- The invariant: the lines of the branch points below k are put.
+-- The nodes' lines are put: the lines of the branch points below k are (Putting).
 use Prim.Native.Nat.{suc, _*_, _-_}
 use native.Mathlib.Numerals.{add-one}
 use native.Mathlib.Omega.{arith}
-use Rattle.tree.specs.Arrays.{treeOf}
+use Rattle.tree.specs.Inner.Arrays.{treeOf}
 use Rattle.formats.specs.ListingText.{nodeText}
-use Rattle.formats.proofs.Laws.ListingWriting.{Putting, putting-starts, putting-ends, line-fits, putting-more}
+use Rattle.formats.proofs.Laws.Listings.ListingWriting.{Putting, putting-starts, putting-ends, line-fits, putting-more}
 use Rattle.formats.proofs.write_listing.put_nodes.Statement.{statement}
 use Rattle.formats.proofs.write_listing.put_nodes.Tie as tie
 

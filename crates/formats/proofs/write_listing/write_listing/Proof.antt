@@ -1,15 +1,17 @@
+-- The listing is put: head, leaves and nodes, each where the part before it ends. No loop.
 use Prim.Native.Nat.{ℕ, _+_, _≤_}
 use mathlib.Core.Path.{ap}
 use mathlib.Core.List.{List, _++_}
 use native.Mathlib.Nat.{zero-add}
 use native.Mathlib.Omega.{arith}
 use lib.ListN.{length}
-use Rattle.tree.specs.Arrays.{treeOf, Parents}
+use Rattle.tree.specs.Inner.Arrays.{Parents}
 use Rattle.tree.specs.Net.{sinkNumbers, branchNumbers}
 use Rattle.formats.specs.ListingText.{Listing, leafText, nodeText, linesText}
-use Rattle.formats.specs.Writing.{Puts, headText}
+use Rattle.formats.specs.Inner.ListingReader.{listingHeld}
+use Rattle.formats.specs.Inner.Writing.{Puts, headText}
 use Rattle.formats.proofs.Laws.Writing.{fits-first, fits-next, puts-both}
-use Rattle.formats.proofs.Laws.ListingWriting.{listing-is, listed-parents, listed-points}
+use Rattle.formats.proofs.Laws.Listings.ListingWriting.{listing-is, listed-parents, listed-points}
 use borrow.Author.Needs.{needs}
 use Rattle.formats.proofs.write_listing.write_listing.Statement.{statement}
 use Rattle.formats.proofs.write_listing.write_listing.Tie as tie
@@ -17,7 +19,7 @@ use Rattle.formats.proofs.write_listing.write_listing.Tie as tie
 abbrev listing : tie.Start → Listing
 listing c =
     let a = c .args in
-    record { slack = a .slack .0; wire = a .wire .0; tree = treeOf (a .n) (a .parents .now) (a .xs .now) (a .ys .now) }
+    listingHeld (a .slack) (a .wire) (a .n) (a .parents .now) (a .xs .now) (a .ys .now)
 
 -- the three parts
 abbrev head : tie.Start → List ℕ
@@ -65,7 +67,7 @@ put-nodes-requires : tie.Need-put-nodes-requires
 put-nodes-requires c κs =
     let st = c .before .before .before .before .before .before .before .before .before .before .before in
     let a = st .args in (
-      (parents-in st, st .pre .1 .0 .1, st .pre .1 .0 .2),
+      (parents-in st, st .pre .1 .0),
       (listed-points (a .n) (a .parents .now) (a .xs .now) (a .ys .now) (a .slack .0) (a .wire .0) (st .pre .0), fits-next _ _ (head st ++ leaves st) (nodes st) (room st) _ _ (front-put (c .before .before .before))),
     )
 

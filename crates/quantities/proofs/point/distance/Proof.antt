@@ -1,11 +1,12 @@
+-- The distance of two points is the sum of the two spans, which fits for coordinates in reach. No loop.
 use native.Mathlib.Omega.{arith}
 use mathlib.Core.Path.{_≡_, _∙_, ap₂}
 use mir.Syntax.{w64}
 use mir.Val.{SFits}
 use mir.Facts.{toZ-ofZ}
-use Rattle.quantities.specs.Reach.{coordinateReach}
+use Rattle.quantities.specs.Inner.Reach.{coordinateReach}
 use Rattle.quantities.specs.Distance.{span, distance}
-use Rattle.quantities.specs.Linear.{whole}
+use Rattle.quantities.specs.Inner.Linear.{whole}
 use Rattle.quantities.proofs.Laws.Distance.{span-within}
 use borrow.Author.Needs.{needs}
 use Rattle.quantities.proofs.point.distance.Statement.{statement}

@@ -1,5 +1,6 @@
+-- The middle one of three numbers: whatever order the tests find, the one returned lies between the other two. No loop.
 use native.Mathlib.Omega.{arith}
-use Rattle.quantities.specs.Linear.{whole}
+use Rattle.quantities.specs.Inner.Linear.{whole}
 use Rattle.quantities.proofs.Laws.Median.{median-is}
 use Rattle.quantities.proofs.point.median.Statement.{statement}
 use Rattle.quantities.proofs.point.median.Tie as tie

@@ -1,7 +1,8 @@
+-- The median of three points: that of their x and that of their y, each number as it was read. No loop.
 use mathlib.Core.Path.{_∙_}
 use mir.Facts.{toZ-ofZ}
 use Rattle.quantities.specs.Median.{median, medianPoint}
-use Rattle.quantities.specs.Linear.{fit}
+use Rattle.quantities.specs.Inner.Linear.{fit}
 use borrow.Author.Needs.{needs}
 use Rattle.quantities.proofs.point.median_point.Statement.{statement}
 use Rattle.quantities.proofs.point.median_point.Tie as tie

@@ -1,5 +1,6 @@
+-- How far two coordinates lie apart: the larger less the smaller, which fits and is not negative. No loop.
 use native.Mathlib.Omega.{arith}
-use Rattle.quantities.specs.Linear.{whole, -is, rd, back-abs}
+use Rattle.quantities.specs.Inner.Linear.{whole, -is, rd, back-abs}
 use Rattle.quantities.proofs.Laws.Distance.{span-is}
 use borrow.Author.Needs.{needs}
 use Rattle.quantities.proofs.point.span.Statement.{statement}

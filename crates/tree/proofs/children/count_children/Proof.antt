@@ -1,11 +1,10 @@
--- `children::count_children` meets its contract. The loop's invariant: each vertex below 2n has its children among 1 to v - 1 counted,
--- and the length is kept. The measure is what is left of 2n. Assumes nothing.
+-- The children of each vertex are counted: those among the vertices 1 to v - 1 are (Counted).
 use Prim.Native.Nat.{_≤_, _<_, _*_, _-_}
 use mathlib.Core.Path.{_≡_, refl, ap, _∙_}
 use native.Mathlib.Omega.{arith}
 use lib.ListN.{length, getD, length-set}
 use Rattle.tree.specs.Lists.{count}
-use Rattle.tree.proofs.Laws.Counting.{parentsTo, Counted, counted-le, counted-more}
+use Rattle.tree.proofs.Laws.Trees.Counting.{parentsTo, Counted, counted-le, counted-more}
 use Rattle.tree.proofs.children.count_children.Statement.{statement}
 use Rattle.tree.proofs.children.count_children.Tie as tie
 

@@ -1,5 +1,4 @@
--- `children::wrong_branch_point` meets its contract. The loop's invariant: the search over all branch points is the one over those from b on.
--- The measure is what is left of 2n. Assumes nothing.
+-- The lowest branch point that has not two children is found: the search over all branch points is the one over those from b on.
 use Prim.Native.Nat.{ℕ, suc, _+_, _*_, _-_}
 use mathlib.Core.Path.{_≡_, sym, ap, ap₂, _∙_}
 use mathlib.Core.Bool.{Bool, true, false, not}
@@ -10,7 +9,7 @@ use lib.Dec.{eqb}
 use lib.ListN.{getD}
 use Rattle.tree.specs.Lists.{firstWith, range}
 use Rattle.tree.specs.Net.{branchNumbers}
-use Rattle.tree.proofs.Laws.Searching.{search-found, search-on, search-ended}
+use Rattle.tree.proofs.Laws.Lists.Searching.{search-found, search-on, search-ended}
 use Rattle.tree.proofs.children.wrong_branch_point.Statement.{statement}
 use Rattle.tree.proofs.children.wrong_branch_point.Tie as tie
 

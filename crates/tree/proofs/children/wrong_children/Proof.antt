@@ -1,8 +1,8 @@
--- `children::wrong_children` meets its contract, by what `count_children` and `wrong_branch_point` ensure. Assumes nothing.
+-- The first vertex with a wrong number of children is found: the root by its count, else as the search over the branch points finds. No loop.
 use mathlib.Core.Path.{sym, _∙_}
 use borrow.Author.Needs.{needs}
-use Rattle.tree.specs.Arrays.{parentsOf}
-use Rattle.tree.proofs.Laws.Counting.{root-wrong, root-right}
+use Rattle.tree.specs.Inner.Arrays.{parentsOf}
+use Rattle.tree.proofs.Laws.Trees.Counting.{root-wrong, root-right}
 use Rattle.tree.proofs.children.wrong_children.Statement.{statement}
 use Rattle.tree.proofs.children.wrong_children.Tie as tie
 

@@ -1,15 +1,15 @@
--- `choose::best_sink` meets its contract: the roomiest sink is the best of those from its place on, and those before it score no more. Assumes nothing.
+-- The best edge to a sink: the roomiest sink is the best of those from its place on, and those before it score no more. No loop.
 use mathlib.Core.Path.{refl, sym, _∙_, subst}
 use native.Mathlib.Omega.{arith}
 use borrow.Author.Needs.{needs}
 use lib.ListN.{getD}
 use lib.IntN.{ℤ, pos}
 use lib.Signed.{_≤ℤ_}
-use Rattle.quantities.proofs.Laws.Order.{min-le-left}
-use Rattle.tree.specs.SmallestSlack.{score}
-use Rattle.tree.specs.Choice.{farAt}
-use Rattle.tree.proofs.Laws.Comparing.{edge-is, far-sink}
-use Rattle.tree.proofs.Laws.Choosing.{roomiest-best, all-sinks}
+use Rattle.quantities.proofs.Laws.MinMax.{min-le-left}
+use Rattle.tree.specs.SmallestSlack.{scoreOf}
+use Rattle.tree.specs.Inner.Choice.{farAt}
+use Rattle.tree.proofs.Laws.Arrays.Comparing.{edge-is, far-sink}
+use Rattle.tree.proofs.Laws.Arrays.Choosing.{roomiest-best, all-sinks}
 use Rattle.tree.proofs.choose.best_sink.Statement.{statement}
 use Rattle.tree.proofs.choose.best_sink.Tie as tie
 
@@ -45,7 +45,7 @@ returns : tie.Need-returns
 returns c =
     let a = c .before .before .before .before .before .before .args in
     let r = c .before .before .before .before .roomiest in
-    let f = score (a .branch .0) (a .slacks .now) in
+    let f = scoreOf (a .branch .0) (a .slacks .now) in
     let d = farAt (a .n) (a .xs .now) (a .ys .now) (a .s) in
     let u = getD (a .sinks .now) (r .result .place) 0 in
     let q = c .before .before .before .before .before .before .pre .1 (r .result .place) (r .ensures .inside) in

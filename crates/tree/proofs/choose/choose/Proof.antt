@@ -1,11 +1,11 @@
--- `choose::choose` meets its contract: the best sink's edge, or that of a branch point that goes before it. Assumes nothing.
+-- The best edge of all: the best one to a sink, or that of a branch point that goes before it. No loop.
 use Prim.Native.Nat.{ℕ, suc, _+_}
 use mathlib.Core.Path.{_≡_, sym, _∙_, subst}
 use native.Mathlib.Omega.{arith}
 use borrow.Author.Needs.{needs}
-use Rattle.tree.specs.SmallestSlack.{score}
-use Rattle.tree.specs.Choice.{farAt, BestEdge, SinkEnd}
-use Rattle.tree.proofs.Laws.Comparing.{far-branch-point}
+use Rattle.tree.specs.SmallestSlack.{scoreOf}
+use Rattle.tree.specs.Inner.Choice.{farAt, BestEdge, SinkEnd}
+use Rattle.tree.proofs.Laws.Arrays.Comparing.{far-branch-point}
 use Rattle.tree.proofs.choose.choose.Statement.{statement}
 use Rattle.tree.proofs.choose.choose.Tie as tie
 
@@ -35,7 +35,7 @@ returns c =
     let nearest = c .before .before .best-sink in
     let d = farAt (a .n) (a .xs .now) (a .ys .now) (a .s) in
     let one : a .k + 1 ≡ suc (a .k) = omega arith in
-    let B = subst (λ (m : ℕ). BestEdge (SinkEnd (a .sinks .now) m) (score (a .branch .0) (a .slacks .now)) d (nearest .result)) one (nearest .ensures) in
+    let B = subst (λ (m : ℕ). BestEdge (SinkEnd (a .sinks .now) m) (scoreOf (a .branch .0) (a .slacks .now)) d (nearest .result)) one (nearest .ensures) in
     c .or-branch-point .ensures (a .sinks .now) d (λ i l. s .pre .1 .0 i l .0)
     (λ v l. far-branch-point (a .n) (a .xs .now) (a .ys .now) (a .s) v l ∙ sym (c .before .far-apart .ensures)) (s .pre .1 .1 .1) B
 

@@ -1,9 +1,10 @@
--- `choose::far_apart` meets its contract: positions in range are in reach of `distance`. Assumes nothing.
+-- How far two vertices are apart: positions in range are in the reach of `distance`. No loop.
 use mathlib.Core.Path.{sym, ap₂, _∙_, subst}
 use borrow.Author.Needs.{needs}
 use Rattle.quantities.specs.Distance.{distance}
-use Rattle.quantities.specs.Reach.{PointWithin, coordinateReach}
-use Rattle.tree.proofs.Laws.Measuring.{point-reach}
+use Rattle.quantities.specs.Ranges.{PointWithin}
+use Rattle.quantities.specs.Inner.Reach.{coordinateReach}
+use Rattle.tree.proofs.Laws.Measures.InReach.{point-reach}
 use Rattle.tree.proofs.choose.far_apart.Statement.{statement}
 use Rattle.tree.proofs.choose.far_apart.Tie as tie
 

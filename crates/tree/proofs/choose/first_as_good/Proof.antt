@@ -1,4 +1,4 @@
--- `choose::first_as_good` meets its contract. The loop's invariant: no branch point below b scores as much. The measure is what is left of n + k + 1. Assumes nothing.
+-- The lowest branch point that scores as much as `best`, or the end of `best` where none does: none below b scores as much (NoneAsGood).
 use Prim.Native.Nat.{_+_, _-_, _≤_, _<_}
 use mathlib.Core.Path.{_≡_, refl, sym, _∙_}
 use mathlib.Core.Bool.{false}
@@ -6,9 +6,9 @@ use mathlib.Core.Logic.{inl, inr, ⊎-elim}
 use native.Mathlib.Omega.{arith}
 use borrow.Author.Needs.{needs}
 use lib.Signed.{ltZ}
-use Rattle.tree.specs.SmallestSlack.{score}
-use Rattle.tree.specs.Choice.{NoneAsGood}
-use Rattle.tree.proofs.Laws.Choosing.{next-none}
+use Rattle.tree.specs.SmallestSlack.{scoreOf}
+use Rattle.tree.specs.Inner.Choice.{NoneAsGood}
+use Rattle.tree.proofs.Laws.Arrays.Choosing.{next-none}
 use Rattle.tree.proofs.choose.first_as_good.Statement.{statement}
 use Rattle.tree.proofs.choose.first_as_good.Tie as tie
 
@@ -52,7 +52,7 @@ returns : tie.Need-returns Inv-loop μ-loop
 returns c =
     let a = c .before .before .before .before .args in
     let l = c .before .before .loop in
-    let enough : ltZ (score (a .branch .0) (a .slacks .now) (l .b)) (a .best .score .0) ≡ false =
+    let enough : ltZ (scoreOf (a .branch .0) (a .slacks .now) (l .b)) (a .best .score .0) ≡ false =
     ⊎-elim (λ t. sym (t .1 .ensures) ∙ t .2 .left) (λ t. absurd (omega (arith, t .left))) (c .before .loop-test .came) in
     inl (l .inv .0, c .if2 .taken, enough, l .inv .2)
 

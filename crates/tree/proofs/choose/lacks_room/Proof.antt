@@ -1,11 +1,11 @@
--- `choose::lacks_room` meets its contract: the slack under v, less the branch cost, against the score. Assumes nothing.
+-- Whether less than the score would be left: the slack under v, less the branch cost, against the score; the difference fits. No loop.
 use mathlib.Core.Path.{_≡_, ap, _∙_}
 use native.Mathlib.Omega.{arith}
 use lib.ListN.{getD}
 use lib.IntN.{ℤ, pos, _-ℤ_}
 use lib.Signed.{ltZ}
 use mir.Facts.{toZ-ofZ}
-use Rattle.quantities.specs.Linear.{whole, fit}
+use Rattle.quantities.specs.Inner.Linear.{whole, fit}
 use borrow.Author.Needs.{needs}
 use Rattle.tree.proofs.choose.lacks_room.Statement.{statement}
 use Rattle.tree.proofs.choose.lacks_room.Tie as tie

@@ -1,9 +1,9 @@
--- `choose::nearer_of` meets its contract: where the scores are the same, distance and then number decide. Assumes nothing.
+-- The one of two edges that goes first where they score the same: the distance decides, then the number. No loop.
 use mathlib.Core.Path.{refl, sym, _∙_}
 use mathlib.Core.Bool.{true, false}
 use borrow.Author.Tests.{lt-ltb, le-ltb}
 use lib.Dec.{ltb}
-use Rattle.tree.proofs.Laws.Comparing.{tied-first, farther-behind}
+use Rattle.tree.proofs.Laws.Arrays.Comparing.{tied-first, farther-behind}
 use borrow.Author.Needs.{needs}
 use Rattle.tree.proofs.choose.nearer_of.Statement.{statement}
 use Rattle.tree.proofs.choose.nearer_of.Tie as tie

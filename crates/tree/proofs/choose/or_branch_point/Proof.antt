@@ -1,6 +1,6 @@
--- `choose::or_branch_point` meets its contract: no branch point scores more than the best sink, so one goes before it only where the root is nearer. Assumes nothing.
+-- The best edge's end: no branch point scores more than the best sink, so one goes before it only where the root is nearer. No loop.
 use mathlib.Core.Path.{sym, _∙_}
-use Rattle.tree.proofs.Laws.Choosing.{root-nearer, root-no-nearer}
+use Rattle.tree.proofs.Laws.Arrays.Choosing.{root-nearer, root-no-nearer}
 use borrow.Author.Needs.{needs}
 use Rattle.tree.proofs.choose.or_branch_point.Statement.{statement}
 use Rattle.tree.proofs.choose.or_branch_point.Tie as tie

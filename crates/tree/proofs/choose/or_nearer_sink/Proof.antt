@@ -1,10 +1,10 @@
--- `choose::or_nearer_sink` meets its contract: the edge to u has less score, or as much as the best one, and then the nearer goes first. Assumes nothing.
+-- The one of two edges that goes first: the edge to u scores less, or as much as the best one, and then the nearer goes first. No loop.
 use mathlib.Core.Path.{refl, sym, ap, _∙_}
 use native.Mathlib.Omega.{arith}
 use Rattle.tree.specs.declared.choose.Edge.{Edge}
-use Rattle.tree.specs.SmallestSlack.{score}
-use Rattle.tree.specs.Choice.{farAt, firstOf}
-use Rattle.tree.proofs.Laws.Comparing.{room-behind, room-tied, edge-is, far-sink}
+use Rattle.tree.specs.SmallestSlack.{scoreOf}
+use Rattle.tree.specs.Inner.Choice.{farAt, firstOf}
+use Rattle.tree.proofs.Laws.Arrays.Comparing.{room-behind, room-tied, edge-is, far-sink}
 use borrow.Author.Needs.{needs}
 use Rattle.tree.proofs.choose.or_nearer_sink.Statement.{statement}
 use Rattle.tree.proofs.choose.or_nearer_sink.Tie as tie
@@ -35,7 +35,7 @@ returns-2 c =
     let p = f .before .before .before .before .pre in
     let d = farAt (a .n) (a .xs .now) (a .ys .now) (a .s) in
     let tied = room-tied (a .branch .0) (a .slacks .now) (a .u) (a .best .score .0) (p .1 .0) (p .1 .1) (sym (f .before .before .lacks-room .ensures) ∙ f .before .if1 .left) in
-    let made = edge-is (score (a .branch .0) (a .slacks .now)) d _ (a .u) refl tied (f .far-apart .ensures ∙ far-sink (a .n) (a .xs .now) (a .ys .now) (a .s) (a .u) (omega arith)) in
+    let made = edge-is (scoreOf (a .branch .0) (a .slacks .now)) d _ (a .u) refl tied (f .far-apart .ensures ∙ far-sink (a .n) (a .xs .now) (a .ys .now) (a .s) (a .u) (omega arith)) in
     c .nearer-of .ensures ∙ ap (λ (x : Edge). firstOf x (a .best)) made
 
 pub or-nearer-sink-spec : {M : Type 1} → statement M

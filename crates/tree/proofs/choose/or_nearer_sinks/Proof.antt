@@ -1,23 +1,23 @@
--- `choose::or_nearer_sinks` meets its contract. The loop's invariant: the best edge to one of the sinks from place i on, with the score that was found. The measure is i. Assumes nothing.
+-- The best edge to a sink: at i, the best to one of the sinks from place i on, with the score that was found (BestEdge).
 use Prim.Native.Nat.{ℕ, suc, _-_, _≤_}
 use mathlib.Core.Path.{_≡_, refl, ap, _∙_, subst}
 use native.Mathlib.Omega.{arith}
 use borrow.Author.Needs.{needs}
 use lib.ListN.{getD}
-use Rattle.quantities.specs.Linear.{whole}
+use Rattle.quantities.specs.Inner.Linear.{whole}
 use Rattle.tree.specs.declared.choose.Edge.{Edge}
-use Rattle.tree.specs.SmallestSlack.{score}
-use Rattle.tree.specs.Choice.{farAt, edgeTo, BestEdge, SinkFrom}
-use Rattle.tree.proofs.Laws.Comparing.{first-keeps}
-use Rattle.tree.proofs.Laws.Choosing.{next-sink}
+use Rattle.tree.specs.SmallestSlack.{scoreOf}
+use Rattle.tree.specs.Inner.Choice.{farAt, edgeTo, BestEdge, SinkFrom}
+use Rattle.tree.proofs.Laws.Arrays.Comparing.{first-keeps}
+use Rattle.tree.proofs.Laws.Arrays.Choosing.{next-sink}
 use Rattle.tree.proofs.choose.or_nearer_sinks.Statement.{statement}
 use Rattle.tree.proofs.choose.or_nearer_sinks.Tie as tie
 
 abbrev Inv-loop : tie.InvT-loop
 Inv-loop n left xs ys sinks slacks branch s best₀ i₀ best i =
     (i ≤ left) × (best .score .0 ≡ best₀ .score .0)
-    × ((m : ℕ) → left ≤ m → BestEdge (SinkFrom sinks left m) (score (branch .0) slacks) (farAt n xs ys s) best₀
-    → BestEdge (SinkFrom sinks i m) (score (branch .0) slacks) (farAt n xs ys s) best)
+    × ((m : ℕ) → left ≤ m → BestEdge (SinkFrom sinks left m) (scoreOf (branch .0) slacks) (farAt n xs ys s) best₀
+    → BestEdge (SinkFrom sinks i m) (scoreOf (branch .0) slacks) (farAt n xs ys s) best)
 
 abbrev μ-loop : tie.MeasureT-loop
 μ-loop n left xs ys sinks slacks branch s best₀ i₀ best i = i
@@ -49,7 +49,7 @@ loop-again : tie.Need-loop-again Inv-loop μ-loop
 loop-again c =
     let a = c .before .before .before .before .before .args in
     let l = c .before .before .before .loop in
-    let f = score (a .branch .0) (a .slacks .now) in
+    let f = scoreOf (a .branch .0) (a .slacks .now) in
     let d = farAt (a .n) (a .xs .now) (a .ys .now) (a .s) in
     let r = c .or-nearer-sink in
     let i : ℕ = l .i - 1 in
@@ -65,7 +65,7 @@ returns c m h B =
     let a = c .before .before .before .args in
     let l = c .before .loop in
     let e : l .i ≡ 0 = omega arith in
-    subst (λ (h : ℕ). BestEdge (SinkFrom (a .sinks .now) h m) (score (a .branch .0) (a .slacks .now)) (farAt (a .n) (a .xs .now) (a .ys .now) (a .s)) (l .best)) e (l .inv .2 m h B)
+    subst (λ (h : ℕ). BestEdge (SinkFrom (a .sinks .now) h m) (scoreOf (a .branch .0) (a .slacks .now)) (farAt (a .n) (a .xs .now) (a .ys .now) (a .s)) (l .best)) e (l .inv .2 m h B)
 
 pub or-nearer-sinks-spec : {M : Type 1} → statement M
 or-nearer-sinks-spec =

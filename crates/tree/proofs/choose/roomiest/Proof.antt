@@ -1,22 +1,22 @@
--- `choose::roomiest` meets its contract. The loop's invariant: the sink of the best score among those from place i on. The measure is i. Assumes nothing.
+-- The sink of the best score: at i, the best of those from place i on (RoomiestFrom); none scores more than the worst slack, so it may end early.
 use Prim.Native.Nat.{ℕ, suc, _-_, _<_}
 use mathlib.Core.Path.{_≡_, sym, ap, _∙_, subst}
 use native.Mathlib.Omega.{arith}
 use borrow.Author.Needs.{needs}
 use lib.ListN.{getD}
-use lib.IntN.{ℤ, pos}
+use lib.IntN.{pos}
 use lib.Signed.{_≤ℤ_, ltZ}
 use mir.Facts.{toZ-ofZ}
-use Rattle.quantities.specs.Linear.{fit}
-use Rattle.quantities.proofs.Laws.Order.{min-le-left}
-use Rattle.tree.specs.SmallestSlack.{score}
-use Rattle.tree.specs.Choice.{RoomiestFrom}
-use Rattle.tree.proofs.Laws.Choosing.{roomiest-one, roomiest-more, roomiest-all}
+use Rattle.quantities.specs.Inner.Linear.{fit}
+use Rattle.quantities.proofs.Laws.MinMax.{min-le-left}
+use Rattle.tree.specs.SmallestSlack.{scoreOf}
+use Rattle.tree.specs.Inner.Choice.{RoomiestFrom}
+use Rattle.tree.proofs.Laws.Arrays.Choosing.{roomiest-one, roomiest-more, roomiest-all}
 use Rattle.tree.proofs.choose.roomiest.Statement.{statement}
 use Rattle.tree.proofs.choose.roomiest.Tie as tie
 
 abbrev Inv-loop : tie.InvT-loop
-Inv-loop m sinks slacks branch worst i₀ best₀ i best = (i < m) × RoomiestFrom (score (branch .0) slacks) sinks i m best
+Inv-loop m sinks slacks branch worst i₀ best₀ i best = (i < m) × RoomiestFrom (scoreOf (branch .0) slacks) sinks i m best
 
 abbrev μ-loop : tie.MeasureT-loop
 μ-loop m sinks slacks branch worst i₀ best₀ i best = i
@@ -45,7 +45,7 @@ score-of-requires c κs =
 loop-holds : tie.Need-loop-holds Inv-loop μ-loop
 loop-holds c =
     let a = c .before .before .before .before .before .args in
-    let f = score (a .branch .0) (a .slacks .now) in
+    let f = scoreOf (a .branch .0) (a .slacks .now) in
     let i = a .m - 1 in
     (omega arith, roomiest-one f (a .sinks .now) (a .m) i _ (omega arith) (λ j. record { place = i; score = record { 0 = c .score-of .ensures .0 j } }))
 
@@ -69,7 +69,7 @@ loop-again : tie.Need-loop-again Inv-loop μ-loop
 loop-again c =
     let a = c .before .before .before .before .before .before .before .before .before .before .args in
     let l = c .before .before .before .before .loop in
-    let f = score (a .branch .0) (a .slacks .now) in
+    let f = scoreOf (a .branch .0) (a .slacks .now) in
     let i : ℕ = l .i - 1 in
     let e : l .i ≡ suc i = omega arith in
     (omega arith, roomiest-more f (a .sinks .now) (a .m) i (l .best) (c .or-roomier .result) (subst (λ (h : ℕ). RoomiestFrom f (a .sinks .now) h (a .m) (l .best)) e (l .inv .1)) (c .or-roomier .ensures))
@@ -78,7 +78,7 @@ returns : tie.Need-returns Inv-loop μ-loop
 returns c =
     let a = c .before .before .before .before .before .before .before .before .before .args in
     let l = c .before .before .before .loop in
-    let f = score (a .branch .0) (a .slacks .now) in
+    let f = scoreOf (a .branch .0) (a .slacks .now) in
     let w = c .before .before .before .before .before .before in
     let worst : w .of .result .0 ≡ getD (a .slacks .now) 0 (pos 0) = w .of .ensures ∙ toZ-ofZ (fit (getD (a .slacks .now) 0 (pos 0)) (w .before .of-arg .given)) in
     let test = ap (ltZ (l .best .score .0)) (sym worst) ∙ sym (c .before .is-less .ensures) ∙ c .if1 .left in
@@ -90,7 +90,7 @@ returns-2 c =
     let a = c .before .before .before .before .before .before .before .args in
     let l = c .before .loop in
     let e : l .i ≡ 0 = omega arith in
-    subst (λ (h : ℕ). RoomiestFrom (score (a .branch .0) (a .slacks .now)) (a .sinks .now) h (a .m) (l .best)) e (l .inv .1)
+    subst (λ (h : ℕ). RoomiestFrom (scoreOf (a .branch .0) (a .slacks .now)) (a .sinks .now) h (a .m) (l .best)) e (l .inv .1)
 
 pub roomiest-spec : {M : Type 1} → statement M
 roomiest-spec =

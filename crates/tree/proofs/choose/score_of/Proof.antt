@@ -1,14 +1,13 @@
--- `choose::score_of` meets its contract: the lesser of the worst slack and of the least slack under v less the branch cost, which is the enlarged tree's worst slack
--- where the numbers are gathered. Assumes nothing.
+-- An edge's score, the lesser of the worst slack and of what is left under v: of gathered numbers it is the enlarged tree's worst slack. No loop.
 use mathlib.Core.Path.{_≡_, ap, ap₂, _∙_}
 use native.Mathlib.Omega.{arith}
 use lib.ListN.{getD}
 use lib.IntN.{ℤ, pos, _-ℤ_}
 use mir.Facts.{toZ-ofZ}
-use Rattle.quantities.specs.Linear.{whole, fit}
-use Rattle.quantities.specs.Order.{minℤ}
-use Rattle.tree.specs.SmallestSlack.{score}
-use Rattle.tree.proofs.Laws.SmallestSlack.{smallest-slack}
+use Rattle.quantities.specs.Inner.Linear.{whole, fit}
+use Rattle.quantities.specs.MinMax.{minℤ}
+use Rattle.tree.specs.SmallestSlack.{scoreOf}
+use Rattle.tree.proofs.Laws.Gathering.SmallestSlack.{smallest-slack}
 use borrow.Author.Needs.{needs}
 use Rattle.tree.proofs.choose.score_of.Statement.{statement}
 use Rattle.tree.proofs.choose.score_of.Tie as tie
@@ -45,8 +44,8 @@ returns c =
     let a = w .before .before .args in
     let worst = w .of .ensures ∙ toZ-ofZ (fit (getD (a .slacks .now) 0 (pos 0)) (w .before .of-arg .given)) in
     let own = b .of2 .ensures ∙ toZ-ofZ (fit (getD (a .slacks .now) (a .v) (pos 0)) (b .before .of-arg2 .given)) in
-    let number : c .least .result .0 ≡ score (a .branch .0) (a .slacks .now) (a .v) = c .least .ensures ∙ ap₂ minℤ worst (c .before .minus .ensures ∙ ap (λ (z : ℤ). z -ℤ a .branch .0) own) in
-    (number, λ N j c1 e l G h. number ∙ ap (λ (z : ℤ). score z (a .slacks .now) (a .v)) e ∙ smallest-slack N c1 .tried j l (a .slacks .now) G (a .v) h)
+    let number : c .least .result .0 ≡ scoreOf (a .branch .0) (a .slacks .now) (a .v) = c .least .ensures ∙ ap₂ minℤ worst (c .before .minus .ensures ∙ ap (λ (z : ℤ). z -ℤ a .branch .0) own) in
+    (number, λ N j c1 e l G h. number ∙ ap (λ (z : ℤ). scoreOf z (a .slacks .now) (a .v)) e ∙ smallest-slack N c1 .tried j l (a .slacks .now) G (a .v) h)
 
 pub score-of-spec : {M : Type 1} → statement M
 score-of-spec =

@@ -1,4 +1,4 @@
--- `choose::scores_less` meets its contract: the edge's score against the other. Assumes nothing.
+-- Whether an edge scores less: its score against the other. No loop.
 use mathlib.Core.Path.{ap, _∙_}
 use lib.IntN.{ℤ}
 use lib.Signed.{ltZ}

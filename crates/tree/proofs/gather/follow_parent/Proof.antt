@@ -1,4 +1,4 @@
--- A vertex follows its parent exactly where its level is behind.
+-- A vertex follows its parent exactly where its level is behind: the test decides both stores. No loop.
 use Prim.Native.Nat.{_+_}
 use mathlib.Core.Path.{_≡_, sym, ap, _∙_}
 use mathlib.Core.Bool.{Bool, true, false, cond}
@@ -7,8 +7,8 @@ use borrow.Author.Tests.{lt-ltb, le-ltb}
 use lib.ListN.{getD, set}
 use lib.IntN.{ℤ, pos, _-ℤ_}
 use mir.Facts.{toZ-ofZ}
-use Rattle.quantities.specs.Linear.{whole, fit}
-use Rattle.tree.specs.Regathering.{isBehind}
+use Rattle.quantities.specs.Inner.Linear.{whole, fit}
+use Rattle.tree.specs.Inner.Regathering.{isBehind}
 use borrow.Author.Needs.{needs}
 use Rattle.tree.proofs.gather.follow_parent.Statement.{statement}
 use Rattle.tree.proofs.gather.follow_parent.Tie as tie

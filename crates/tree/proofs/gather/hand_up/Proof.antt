@@ -1,5 +1,5 @@
--- The number goes up along the way while it is less: what is passed has the lesser, what is ahead is as it was.
-use Prim.Native.Nat.{ℕ, _-_, _≤_, _<_}
+-- The least goes up the way: what is passed has the lesser, what is ahead is as it was (Raising); numbers never rise upward, so it may end early.
+use Prim.Native.Nat.{ℕ, _-_, _≤_}
 use mathlib.Core.Path.{_≡_, refl, sym, ap, _∙_, subst}
 use mathlib.Core.Bool.{true, false}
 use mathlib.Core.Logic.{_≢_}
@@ -11,10 +11,10 @@ use lib.ListN.{length, getD, set, length-set}
 use lib.IntN.{ℤ, pos}
 use lib.Signed.{ltZ, _<ℤ_}
 use mir.Facts.{toZ-ofZ}
-use Rattle.quantities.specs.Linear.{whole, fit, rd}
+use Rattle.quantities.specs.Inner.Linear.{whole, fit, rd}
 use Rattle.tree.specs.Lists.{count}
-use Rattle.tree.specs.Regathering.{Falling, wayUp}
-use Rattle.tree.proofs.Laws.HandingUp.{Raising, raising-all, raising-step, raising-stop, raising-end, way-next, way-done, way-first}
+use Rattle.tree.specs.Inner.Regathering.{Falling, wayUp}
+use Rattle.tree.proofs.Laws.Gathering.HandingUp.{Raising, raising-all, raising-step, raising-stop, raising-end, way-next, way-done, way-first}
 use Rattle.tree.proofs.gather.hand_up.Statement.{statement}
 use Rattle.tree.proofs.gather.hand_up.Tie as tie
 

@@ -1,12 +1,12 @@
--- The two new vertices get their levels and numbers from those of v.
+-- The two new vertices get their levels and numbers from those of v: the stores are those of the contract, and each number fits. No loop.
 use Prim.Native.Nat.{_*_, _≤_}
 use mathlib.Core.Path.{_≡_, refl, ap, ap₂, _∙_}
 use native.Mathlib.Omega.{arith}
 use lib.ListN.{getD, set}
 use lib.IntN.{ℤ, natAbs, pos, _-ℤ_, _*ℤ_}
 use mir.Facts.{toZ-ofZ}
-use Rattle.quantities.specs.Linear.{whole, fit, mul-le, natAbs-is}
-use Rattle.quantities.specs.Reach.{termReach, factorReach}
+use Rattle.quantities.specs.Inner.Linear.{whole, fit, mul-le, natAbs-is}
+use Rattle.quantities.specs.Inner.Reach.{termReach, factorReach}
 use borrow.Author.Needs.{needs}
 use Rattle.tree.proofs.gather.hang_new.Statement.{statement}
 use Rattle.tree.proofs.gather.hang_new.Tie as tie

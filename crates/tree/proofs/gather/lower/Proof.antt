@@ -1,15 +1,16 @@
--- v goes one level down, and where it is a branch point those under it follow.
+-- v goes one level down, and where it is a branch point those under it follow; a sink has none under it. No loop.
 use Prim.Native.Nat.{ℕ, _+_, _<_}
 use mathlib.Core.Path.{_≡_, sym, ap, _∙_, subst}
 use mathlib.Core.List.{List}
 use native.Mathlib.Omega.{arith}
-use lib.ListN.{length, getD, set, length-set}
+use lib.ListN.{getD, set, length-set}
 use lib.IntN.{ℤ, pos, _-ℤ_}
 use mir.Facts.{toZ-ofZ}
-use Rattle.quantities.specs.Linear.{whole, fit, rd}
-use Rattle.quantities.specs.Reach.{Within, timeReach}
-use Rattle.tree.specs.Regathering.{Sinks, Lowered}
-use Rattle.tree.proofs.Laws.Lowering.{lowered-first, lowered-sink}
+use Rattle.quantities.specs.Inner.Linear.{whole, fit, rd}
+use Rattle.quantities.specs.Ranges.{Within}
+use Rattle.quantities.specs.Inner.Reach.{timeReach}
+use Rattle.tree.specs.Inner.Regathering.{DeepensUnder, Lowered}
+use Rattle.tree.proofs.Laws.Gathering.Lowering.{lowered-first, lowered-sink}
 use borrow.Author.Needs.{needs}
 use Rattle.tree.proofs.gather.lower.Statement.{statement}
 use Rattle.tree.proofs.gather.lower.Tie as tie
@@ -46,7 +47,7 @@ stored : (c : tie.After-value) → rd (c .value .result) ≡ getD (c .before .be
 stored c = toZ-ofZ (fit (c .value .result) (c .value .ok)) ∙ c .value .ensures ∙ c .before .minus .ensures ∙ ap (λ (z : ℤ). z -ℤ c .before .before .before .before .before .before .before .before .args .branch .0) (slack-read (c .before .before))
 
 -- v alone has gone down
-first : (c : tie.After-value) (us : List ℕ) (j : ℕ) (D : ℕ → ℕ) → j < c .before .before .before .before .before .before .before .before .args .m → getD us j 0 ≡ c .before .before .before .before .before .before .before .before .args .v → Sinks (c .before .before .before .before .before .before .before .before .args .parents .now) us (c .before .before .before .before .before .before .before .before .args .n) (c .before .before .before .before .before .before .before .before .args .m) j (c .before .before .before .before .before .before .before .before .args .levels .now) D
+first : (c : tie.After-value) (us : List ℕ) (j : ℕ) (D : ℕ → ℕ) → j < c .before .before .before .before .before .before .before .before .args .m → getD us j 0 ≡ c .before .before .before .before .before .before .before .before .args .v → DeepensUnder (c .before .before .before .before .before .before .before .before .args .parents .now) us (c .before .before .before .before .before .before .before .before .args .n) (c .before .before .before .before .before .before .before .before .args .m) j (c .before .before .before .before .before .before .before .before .args .levels .now) D
     → Lowered us (c .before .before .before .before .before .before .before .before .args .m) D (c .before .before .before .before .before .before .before .before .args .branch .0) (c .before .before .before .before .before .before .before .before .args .levels .now) (c .before .before .before .before .before .before .before .before .args .slacks .now) j (set (c .before .before .before .before .before .before .before .before .args .levels .now) (c .before .before .before .before .before .before .before .before .args .v) (getD (c .before .before .before .before .before .before .before .before .args .levels .now) (c .before .before .before .before .before .before .before .before .args .v) 0 + 1)) (set (c .before .before .before .before .before .before .before .before .args .slacks .now) (c .before .before .before .before .before .before .before .before .args .v) (rd (c .value .result)))
 first c us j D jm e S =
     let a = c .before .before .before .before .before .before .before .before .args in

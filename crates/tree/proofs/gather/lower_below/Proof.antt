@@ -1,4 +1,4 @@
--- Those under v follow it along the chain, each after its parent: the walk comes to place i with all behind it done.
+-- Those under v follow it along the chain, each after its parent: the walk comes to place i with all behind it done (Lowered).
 use Prim.Native.Nat.{ℕ, suc, _+_, _-_, _≤_, _<_}
 use mathlib.Core.Path.{_≡_, refl, sym, ap, _∙_, subst}
 use mathlib.Core.Bool.{cond}
@@ -8,11 +8,12 @@ use native.Mathlib.Omega.{arith}
 use borrow.Author.Tests.{ltb-true, ltb-false}
 use lib.ListN.{length, getD, set}
 use lib.IntN.{ℤ, pos, _-ℤ_}
-use Rattle.quantities.specs.Reach.{Within, timeReach}
-use Rattle.tree.specs.Arrays.{Chained}
-use Rattle.tree.specs.Regathering.{Deepens, Lowered, isBehind}
-use Rattle.tree.proofs.Laws.Lowering.{parent-done, still, lowered-step}
-use Rattle.tree.proofs.Laws.Upward.{prior, prior-led, prior-at, prior-end}
+use Rattle.quantities.specs.Ranges.{Within}
+use Rattle.quantities.specs.Inner.Reach.{timeReach}
+use Rattle.tree.specs.Inner.Arrays.{Chained}
+use Rattle.tree.specs.Inner.Regathering.{Deepens, Lowered, isBehind}
+use Rattle.tree.proofs.Laws.Gathering.Lowering.{parent-done, still, lowered-step}
+use Rattle.tree.proofs.Laws.Trees.Upward.{prior, prior-led, prior-at, prior-end}
 use Rattle.tree.proofs.gather.lower_below.Statement.{statement}
 use Rattle.tree.proofs.gather.lower_below.Tie as tie
 

@@ -1,4 +1,4 @@
--- One insertion's numbers: the new vertices get theirs, v and those under it go down, the least goes up, and the worst slack follows.
+-- One insertion's numbers: the new vertices get theirs, v and those under it go down, the least goes up, and the worst slack follows. No loop.
 use Prim.Native.Nat.{ℕ, suc, _+_, _*_, _-_, _≤_, _<_}
 use mathlib.Core.Path.{_≡_, sym, ap, _∙_, subst}
 use mathlib.Core.Logic.{_≢_}
@@ -7,15 +7,16 @@ use native.Mathlib.Omega.{arith}
 use lib.ListN.{length, getD, set}
 use lib.IntN.{ℤ, pos, _-ℤ_, _*ℤ_}
 use mir.Facts.{toZ-ofZ}
-use Rattle.quantities.specs.Linear.{whole, fit}
-use Rattle.quantities.specs.Reach.{Within, termReach}
+use Rattle.quantities.specs.Inner.Linear.{whole, fit}
+use Rattle.quantities.specs.Ranges.{Within}
+use Rattle.quantities.specs.Inner.Reach.{timeReach}
 use Rattle.tree.specs.Lists.{count}
 use Rattle.tree.specs.Net.{Net}
 use Rattle.tree.specs.SmallestSlack.{nextSink, InTree, Gathered}
-use Rattle.tree.specs.Insertion.{Ready, Inserted, Leveled, HoldsSoFar, SplitsNext}
-use Rattle.tree.specs.Regathering.{Falling, Raised, wayUp}
-use Rattle.tree.proofs.Laws.NetArrays.{branch-within}
-use Rattle.tree.proofs.Laws.Regathering.{place-in, parent-in, level-few, number-within, new-within, new-in, way-length, way-in, way-once, old-few, old-within, sinks, falls, leveled-next, gathered-next}
+use Rattle.tree.specs.Inner.Insertion.{Ready, Inserted, Leveled, HoldsSoFar, SplitsNext}
+use Rattle.tree.specs.Inner.Regathering.{Falling, Raised, wayUp}
+use Rattle.tree.proofs.Laws.Arrays.ReadyNet.{branch-within, branch-reach}
+use Rattle.tree.proofs.Laws.Gathering.Regathering.{place-in, parent-in, level-few, number-within, new-within, new-in, way-length, way-in, way-once, old-few, old-within, sinks, falls, leveled-next, gathered-next}
 use borrow.Author.Needs.{needs}
 use Rattle.tree.proofs.gather.regather.Statement.{statement}
 use Rattle.tree.proofs.gather.regather.Tie as tie
@@ -77,8 +78,8 @@ minus-requires c κs =
     let p = c .before .before .before .before .before .before .pre in
     let r = p .0 .1 in
     let w = spot (r .1 .inserted) (a .v) (r .3) in
-    let n : Within termReach (getD (a .slacks .now) (a .v) (pos 0)) = subst (λ (z : ℕ). Within termReach (getD (a .slacks .now) z (pos 0))) (w .2) (number-within (r .0) (r .1 .inserted) (omega arith) (r .1 .leveled) (r .1 .gathered) (p .1 .0) (w .1) (w .0) (w .1)) in
-    let b : Within termReach (a .branch .0) = branch-within (r .0) in
+    let n : Within timeReach (getD (a .slacks .now) (a .v) (pos 0)) = subst (λ (z : ℕ). Within timeReach (getD (a .slacks .now) z (pos 0))) (w .2) (number-within (r .0) (r .1 .inserted) (omega arith) (r .1 .leveled) (r .1 .gathered) (p .1 .0) (w .1) (w .0) (w .1)) in
+    let b : Within timeReach (a .branch .0) = branch-reach (r .0) in
     omega (arith, whole, slack-read c)
 
 add-hang-new : tie.Need-add-hang-new
@@ -95,12 +96,12 @@ hang-new-requires c κs =
     let w = spot (r .1 .inserted) (a .v) (r .3) in
     let v = place-in (r .0) (r .1 .inserted) (omega arith) (w .0) (w .1) in
     let s = new-in (r .0) (r .1 .inserted) (omega arith) (r .1 .leveled) (r .1 .gathered) (p .1 .0) (w .1) in
-    let n : Within termReach (getD (a .slacks .now) (a .v) (pos 0)) = subst (λ (z : ℕ). Within termReach (getD (a .slacks .now) z (pos 0))) (w .2) (number-within (r .0) (r .1 .inserted) (omega arith) (r .1 .leveled) (r .1 .gathered) (p .1 .0) (w .1) (w .0) (w .1)) in (
+    let n : Within timeReach (getD (a .slacks .now) (a .v) (pos 0)) = subst (λ (z : ℕ). Within timeReach (getD (a .slacks .now) z (pos 0))) (w .2) (number-within (r .0) (r .1 .inserted) (omega arith) (r .1 .leveled) (r .1 .gathered) (p .1 .0) (w .1) (w .0) (w .1)) in (
       omega (arith, v, w .2, s, r .2, r .0 .own-long, p .1),
       (
         omega (arith, level-few (r .0) (r .1 .inserted) (omega arith) (r .1 .leveled) (r .1 .gathered) (p .1 .0) (w .1) (w .0) (w .1), ap (λ (z : ℕ). getD (a .levels .now) z 0) (w .2)),
         omega (arith, whole),
-        subst (λ (z : ℕ). Within termReach (getD (a .own .now) z (pos 0))) (sym (r .2)) (new-within (r .0) (r .1 .inserted) (omega arith) (r .1 .leveled) (r .1 .gathered) (p .1 .0) (w .1)),
+        subst (λ (z : ℕ). Within timeReach (getD (a .own .now) z (pos 0))) (sym (r .2)) (new-within (r .0) (r .1 .inserted) (omega arith) (r .1 .leveled) (r .1 .gathered) (p .1 .0) (w .1)),
         branch-within (r .0),
       ),
     )
@@ -132,7 +133,7 @@ lower-requires c κs =
     let w = spot (r .1 .inserted) (a .v) (r .3) in
     let el = hung-levels (c .before .before .before .before .before) (p .0 .0) (r .1 .upward) (w .0) (w .2) (r .2) in
     let es = hung-slacks (c .before .before .before .before .before) (p .0 .0) (r .1 .upward) (w .0) (w .2) (r .2) in
-    let b : Within termReach (a .branch .0) = branch-within (r .0) in (
+    let b : Within timeReach (a .branch .0) = branch-reach (r .0) in (
       (
         r .1 .upward,
         w .0,

@@ -1,10 +1,10 @@
--- The worst slack is the lesser of itself and what was handed up.
+-- The worst slack becomes the lesser of itself and what was handed up. No loop.
 use mathlib.Core.Path.{ap, _∙_}
 use lib.ListN.{getD, set}
 use lib.IntN.{ℤ, pos}
 use mir.Facts.{toZ-ofZ}
-use Rattle.quantities.specs.Linear.{fit}
-use Rattle.quantities.specs.Order.{minℤ}
+use Rattle.quantities.specs.Inner.Linear.{fit}
+use Rattle.quantities.specs.MinMax.{minℤ}
 use borrow.Author.Needs.{needs}
 use Rattle.tree.proofs.gather.worst_with.Statement.{statement}
 use Rattle.tree.proofs.gather.worst_with.Tie as tie

@@ -1,4 +1,4 @@
--- All insertions: before each the arrays hold the tree so far, its order and its numbers; at the end the order is written out.
+-- All sinks go in: before each insertion the arrays hold the tree so far, its order and its numbers (HoldsSoFar); at the end the order is written out.
 use native.Mathlib.Numerals.{add-one}
 use Prim.Native.Nat.{ℕ, suc, _+_, _*_, _-_, _<_}
 use mathlib.Core.Path.{_≡_, refl, sym, _∙_, subst}
@@ -7,12 +7,12 @@ use native.Mathlib.Omega.{arith}
 use borrow.Author.Needs.{needs}
 use lib.ListN.{length, getD}
 use Rattle.tree.specs.Net.{Net}
-use Rattle.tree.specs.Arrays.{Chained}
-use Rattle.tree.specs.Insertion.{Ready, Lined, Placed, HoldsSoFar}
-use Rattle.tree.proofs.Laws.Inserting.{insert-first, chain-first, first-leveled, first-gathered, last-parents, last-order, last-slacks}
-use Rattle.tree.proofs.Laws.NetArrays.{few-sinks, line-in}
-use Rattle.tree.proofs.Laws.Regathering.{place-in}
-use Rattle.tree.proofs.Laws.Upward.{leaves-same}
+use Rattle.tree.specs.Inner.Arrays.{Chained}
+use Rattle.tree.specs.Inner.Insertion.{Ready, Lined, Placed, HoldsSoFar}
+use Rattle.tree.proofs.Laws.Arrays.InsertionLoop.{insert-first, chain-first, first-leveled, first-gathered, last-parents, last-order, last-slacks}
+use Rattle.tree.proofs.Laws.Arrays.ReadyNet.{few-sinks, line-in}
+use Rattle.tree.proofs.Laws.Gathering.Regathering.{place-in}
+use Rattle.tree.proofs.Laws.Trees.Upward.{leaves-same}
 use Rattle.tree.proofs.insert.insert_all.Statement.{statement}
 use Rattle.tree.proofs.insert.insert_all.Tie as tie
 

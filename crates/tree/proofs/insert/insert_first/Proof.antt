@@ -1,9 +1,9 @@
--- The first sink's stores: what is read of its own slack is what is stored.
+-- The first sink hangs on the root: the stores are those of the contract, and its own slack is stored as it was read. No loop.
 use mathlib.Core.Path.{refl}
 use lib.ListN.{getD, set}
 use lib.IntN.{pos}
 use mir.Facts.{toZ-ofZ}
-use Rattle.quantities.specs.Linear.{fit}
+use Rattle.quantities.specs.Inner.Linear.{fit}
 use borrow.Author.Needs.{needs}
 use Rattle.tree.proofs.insert.insert_first.Statement.{statement}
 use Rattle.tree.proofs.insert.insert_first.Tie as tie

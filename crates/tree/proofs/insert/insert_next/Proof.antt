@@ -1,14 +1,15 @@
--- One insertion: the edge that the search finds is the chosen one, so the arrays hold the next tree, its order and its numbers.
+-- One insertion: the edge that the search finds is the chosen one, so the arrays hold the next tree, its order and its numbers. No loop.
 use Prim.Native.Nat.{ℕ, _+_, _*_, _<_}
 use mathlib.Core.Path.{refl, ap}
 use mathlib.Core.Logic.{inl, inr}
 use native.Mathlib.Omega.{arith}
-use lib.ListN.{length, getD}
-use Rattle.quantities.specs.Linear.{whole}
-use Rattle.quantities.specs.Reach.{Within, termReach}
-use Rattle.tree.proofs.Laws.Inserting.{points-within, end-within, none-roomier, end-place, s-next, splits-next, next-order}
-use Rattle.tree.proofs.Laws.NetArrays.{branch-within, few-sinks, line-in}
-use Rattle.tree.proofs.Laws.Regathering.{place-in, parent-in}
+use lib.ListN.{getD}
+use Rattle.quantities.specs.Inner.Linear.{whole}
+use Rattle.quantities.specs.Ranges.{Within}
+use Rattle.quantities.specs.Inner.Reach.{timeReach}
+use Rattle.tree.proofs.Laws.Arrays.InsertionLoop.{points-within, end-within, none-roomier, end-place, s-next, splits-next, next-order}
+use Rattle.tree.proofs.Laws.Arrays.ReadyNet.{branch-reach, few-sinks, line-in}
+use Rattle.tree.proofs.Laws.Gathering.Regathering.{place-in, parent-in}
 use borrow.Author.Needs.{needs}
 use Rattle.tree.proofs.insert.insert_next.Statement.{statement}
 use Rattle.tree.proofs.insert.insert_next.Tie as tie
@@ -27,7 +28,7 @@ choose-requires c κs =
     let a = c .before .before .before .before .before .before .args in
     let p = c .before .before .before .before .before .before .pre in
     let r = p .0 .1 in
-    let b : Within termReach (a .branch .0) = branch-within (r .0) in
+    let b : Within timeReach (a .branch .0) = branch-reach (r .0) in
     let kn = p .1 .0 in
     let within = end-within (r .0) (r .1) (r .2) (r .3 .inserted) (r .3 .gathered) kn in (
       (

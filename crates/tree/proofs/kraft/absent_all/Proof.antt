@@ -1,12 +1,11 @@
--- `kraft::absent_all` meets its contract. The loop's invariant: each place passed holds `absent`, and the length is kept.
--- The measure is what is left of n. Assumes nothing.
+-- No sink is in: each place below u holds `absent`.
 use Prim.Native.Nat.{ℕ, _+_, _-_, _≤_, _<_}
 use mathlib.Core.Path.{_≡_, refl, _∙_}
 use native.Mathlib.Omega.{arith}
 use lib.ListN.{length, getD, length-set}
 use lib.IntN.{pos}
-use Rattle.tree.specs.SinkSplits.{absent}
-use Rattle.tree.proofs.Laws.Places.{filled-more}
+use Rattle.tree.specs.Inner.SinkSplits.{absent}
+use Rattle.tree.proofs.Laws.Lists.Filling.{filled-more}
 use Rattle.tree.proofs.kraft.absent_all.Statement.{statement}
 use Rattle.tree.proofs.kraft.absent_all.Tie as tie
 

@@ -1,10 +1,10 @@
--- `kraft::deepen` meets its contract: the two stores are those of the contract, and each sum stays in its reach. No loop. Assumes nothing.
+-- The slacks after a split above v: the two stores are those of the contract, and each sum stays in its reach. No loop.
 use mathlib.Core.Path.{_≡_, _∙_, ap, ap₂}
 use native.Mathlib.Omega.{arith}
 use lib.ListN.{getD, set}
 use lib.IntN.{ℤ, pos, _+ℤ_, _-ℤ_}
 use mir.Facts.{toZ-ofZ}
-use Rattle.quantities.specs.Linear.{whole, fit, -is}
+use Rattle.quantities.specs.Inner.Linear.{whole, fit, -is}
 use borrow.Author.Needs.{needs}
 use Rattle.tree.proofs.kraft.deepen.Statement.{statement}
 use Rattle.tree.proofs.kraft.deepen.Tie as tie

@@ -1,11 +1,11 @@
--- `kraft::kraft_maximum` meets its contract: the own slacks and the order make the arrays of the net that is held. No loop. Assumes nothing.
+-- The Kraft maximum of a net: the own slacks and the order are the net's, so the worst slack with all sinks in is its maximum. No loop.
 use native.Mathlib.Omega.{arith}
 use borrow.Author.Needs.{needs}
 use Rattle.tree.specs.Net.{Net}
-use Rattle.tree.specs.Arrays.{netOf}
-use Rattle.tree.specs.SinkSplits.{Sorted}
-use Rattle.tree.proofs.Laws.Arrays.{size-is}
-use Rattle.tree.proofs.Laws.SinkArrays.{some-held, sorted}
+use Rattle.tree.specs.Inner.Arrays.{netOf}
+use Rattle.tree.specs.Inner.SinkSplits.{SinksReady}
+use Rattle.tree.proofs.Laws.Arrays.NetAndTree.{size-is}
+use Rattle.tree.proofs.Laws.Kraft.SinkArrays.{some-held, sorted}
 use Rattle.tree.proofs.kraft.kraft_maximum.Statement.{statement}
 use Rattle.tree.proofs.kraft.kraft_maximum.Tie as tie
 
@@ -22,7 +22,7 @@ order-sinks-requires c κs =
 abbrev net : tie.After-worst-of-all-arg3 → Net
 net c = let a = c .before .before .before .before .before .before .before .before .before .before .before .before .args in netOf (a .h) (a .n) (a .xs .now) (a .ys .now) (a .required .now)
 
-sorted-now : (c : tie.After-worst-of-all-arg3) → Sorted (net c) (c .before .before .before .before .before .before .before .before .before .before .before .before .args .h .branch .0) (c .before .before .before .before .before .before .before .before .before .before .before .before .args .n) (c .before .before .before .before .before .before .before .before .before .own-slacks .last .1 .1 .1 .1 .1 .0) (c .before .before .before .before .before .order-sinks .last .1 .1 .0)
+sorted-now : (c : tie.After-worst-of-all-arg3) → SinksReady (net c) (c .before .before .before .before .before .before .before .before .before .before .before .before .args .h .branch .0) (c .before .before .before .before .before .before .before .before .before .before .before .before .args .n) (c .before .before .before .before .before .before .before .before .before .own-slacks .last .1 .1 .1 .1 .1 .0) (c .before .before .before .before .before .order-sinks .last .1 .1 .0)
 sorted-now c =
     let s = c .before .before .before .before .before .before .before .before .before .before .before .before in
     let a = s .args in

@@ -1,12 +1,12 @@
--- `kraft::next_worst` meets its contract: what it calls makes the slacks with one sink more. What the calls require comes from the one net that is given.
--- Assumes nothing.
+-- One sink more goes in, beside the roomiest: the slacks are those with it in, and the worst slack is the largest there can be (Kept). No loop.
 use Prim.Native.Nat.{_+_, _≤_}
 use mathlib.Core.Path.{refl}
 use native.Mathlib.Omega.{arith}
 use borrow.Author.Needs.{needs}
 use lib.ListN.{getD}
-use Rattle.tree.proofs.Laws.NetArrays.{branch-within, own-slack-within}
-use Rattle.tree.proofs.Laws.SinkArrays.{sink-in, place-within, next-kept}
+use Rattle.tree.proofs.Laws.Arrays.ReadyNet.{branch-within, branch-reach, own-slack-within}
+use Rattle.tree.proofs.Laws.Kraft.SinkSplits.{place-reach}
+use Rattle.tree.proofs.Laws.Kraft.SinkArrays.{sink-in, place-within, next-kept}
 use Rattle.tree.proofs.kraft.next_worst.Statement.{statement}
 use Rattle.tree.proofs.kraft.next_worst.Tie as tie
 
@@ -14,14 +14,14 @@ roomiest-sink-requires : tie.Need-roomiest-sink-requires
 roomiest-sink-requires c κs =
     let s = c .before .before in
     let A = s .pre .0 .1 .0 in
-    ((omega arith, omega arith, branch-within (A .ready)), λ u from to. place-within A (s .args .k) (s .pre .0 .1 .1) (omega arith) u from to)
+    ((omega arith, omega arith, branch-reach (A .ready)), λ u from to. place-reach _ (place-within A (s .args .k) (s .pre .0 .1 .1) (omega arith) u from to))
 
 worst-if-split-requires : tie.Need-worst-if-split-requires
 worst-if-split-requires c κs =
     let s = c .before .before .before .before in
     let A = s .pre .0 .1 .0 in
     let v = c .before .roomiest-sink in
-    (omega (arith, v .ensures .to), place-within A (s .args .k) (s .pre .0 .1 .1) (omega arith) (v .result) (v .ensures .from) (omega (arith, v .ensures .to)), branch-within (A .ready))
+    (omega (arith, v .ensures .to), place-reach _ (place-within A (s .args .k) (s .pre .0 .1 .1) (omega arith) (v .result) (v .ensures .from) (omega (arith, v .ensures .to))), branch-reach (A .ready))
 
 add-deepen : tie.Need-add-deepen
 add-deepen c = search needs

@@ -1,10 +1,10 @@
--- `kraft::roomier` meets its contract: the test decides both parts of the candidate. No loop. Assumes nothing.
+-- The roomier of the best so far and sink u: the test decides both parts of the candidate. No loop.
 use mathlib.Core.Path.{_≡_, sym, ap, _∙_}
 use mathlib.Core.Bool.{Bool, true, false, cond}
 use lib.Signed.{ltZ}
 use lib.IntN.{ℤ}
 use borrow.Author.Needs.{needs}
-use Rattle.tree.specs.SinkSplits.{worstIfSplit}
+use Rattle.tree.specs.Inner.SinkSplits.{worstIfSplit}
 use Rattle.tree.proofs.kraft.roomier.Statement.{statement}
 use Rattle.tree.proofs.kraft.roomier.Tie as tie
 

@@ -1,5 +1,4 @@
--- `kraft::roomiest_sink` meets its contract. The loop's invariant: of the sinks below u the best so far leaves the largest worst slack, and has it.
--- The measure is what is left of n. Assumes nothing.
+-- A sink that is best to split: the best of those below u (LargestAt); none leaves more than `worst`, so the search may end early.
 use Prim.Native.Nat.{ℕ, _+_, _-_, _≤_}
 use mathlib.Core.Path.{_≡_, sym, ap, _∙_, subst}
 use mathlib.Core.Bool.{false}
@@ -7,11 +6,11 @@ use native.Mathlib.Omega.{arith}
 use lib.ListN.{getD}
 use lib.IntN.{pos, _-ℤ_}
 use lib.Signed.{ltZ}
-use Rattle.quantities.specs.Linear.{whole}
-use Rattle.quantities.proofs.Laws.Order.{min-le-left}
+use Rattle.quantities.specs.Inner.Linear.{whole}
+use Rattle.quantities.proofs.Laws.MinMax.{min-le-left}
 use borrow.Author.Needs.{needs}
-use Rattle.tree.specs.SinkSplits.{LargestAt, worstIfSplit}
-use Rattle.tree.proofs.Laws.Largest.{largest-start, largest-more, largest-rest}
+use Rattle.tree.specs.Inner.SinkSplits.{LargestAt, worstIfSplit}
+use Rattle.tree.proofs.Laws.Lists.Largest.{largest-start, largest-more, largest-rest}
 use Rattle.tree.proofs.kraft.roomiest_sink.Statement.{statement}
 use Rattle.tree.proofs.kraft.roomiest_sink.Tie as tie
 

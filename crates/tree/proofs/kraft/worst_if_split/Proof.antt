@@ -1,11 +1,11 @@
--- `kraft::worst_if_split` meets its contract: the slack is read as it stands, lowered, and the lesser taken. No loop. Assumes nothing.
+-- The worst slack after a split above u: the slack is read as it stands, lowered by the branch cost, and the lesser taken. No loop.
 use mathlib.Core.Path.{_≡_, _∙_, ap}
 use native.Mathlib.Omega.{arith}
 use lib.ListN.{getD}
 use lib.IntN.{ℤ, pos, _-ℤ_}
 use mir.Facts.{toZ-ofZ}
-use Rattle.quantities.specs.Linear.{whole, fit}
-use Rattle.quantities.specs.Order.{minℤ}
+use Rattle.quantities.specs.Inner.Linear.{whole, fit}
+use Rattle.quantities.specs.MinMax.{minℤ}
 use borrow.Author.Needs.{needs}
 use Rattle.tree.proofs.kraft.worst_if_split.Statement.{statement}
 use Rattle.tree.proofs.kraft.worst_if_split.Tie as tie

@@ -1,5 +1,4 @@
--- `kraft::worst_of_all` meets its contract. The loop's invariant: for every net whose arrays these are, the slacks are those with the first k + 1 sinks in,
--- and their length is kept. The measure is what is left of n. Assumes nothing.
+-- The Kraft maximum, from the sorted sinks: the slacks and the worst slack are those with the first k + 1 sinks in (Kept).
 use Prim.Native.Nat.{ℕ, suc, _-_, _<_}
 use mathlib.Core.Path.{_≡_, refl, sym, _∙_, subst}
 use native.Mathlib.Omega.{arith}
@@ -7,17 +6,17 @@ use native.Mathlib.Numerals.{add-one}
 use lib.ListN.{length, getD, set, length-set}
 use lib.IntN.{pos}
 use mir.Facts.{toZ-ofZ}
-use Rattle.quantities.specs.Linear.{fit, rd}
+use Rattle.quantities.specs.Inner.Linear.{fit, rd}
 use Rattle.tree.specs.Net.{Net}
 use Rattle.tree.specs.SmallestSlack.{sinksIn}
-use Rattle.tree.specs.SinkSplits.{Sorted, Kept}
-use Rattle.tree.proofs.Laws.SinkArrays.{some-sink, sink-in, first-kept, worst-maximum}
+use Rattle.tree.specs.Inner.SinkSplits.{SinksReady, Kept}
+use Rattle.tree.proofs.Laws.Kraft.SinkArrays.{some-sink, sink-in, first-kept, worst-maximum}
 use Rattle.tree.proofs.kraft.worst_of_all.Statement.{statement}
 use Rattle.tree.proofs.kraft.worst_of_all.Tie as tie
 
 abbrev Inv-loop : tie.InvT-loop
 Inv-loop n own sinks slacks₀ branch first worst₀ k₀ slacks worst k =
-    (k < n) × (length slacks ≡ length slacks₀) × ((N : Net) → Sorted N (branch .0) n own sinks → Kept N (sinksIn N k) slacks (worst .0))
+    (k < n) × (length slacks ≡ length slacks₀) × ((N : Net) → SinksReady N (branch .0) n own sinks → Kept N (sinksIn N k) slacks (worst .0))
 
 abbrev μ-loop : tie.MeasureT-loop
 μ-loop n own sinks slacks₀ branch first worst₀ k₀ slacks worst k = n - k

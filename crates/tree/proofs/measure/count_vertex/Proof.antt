@@ -1,5 +1,5 @@
--- `count_vertex` meets its contract: a walk of its MIR, by hand. The borrow is opened, the tally behind it is copied out and passed to `with_vertex` with all other parameters, and the borrow is closed at what `with_vertex` returned.
--- All that the proof knows of `with_vertex` is that it meets its contract.
+-- Vertex v is counted into the tally that is lent: what is stored is the tally that `with_vertex` returns. No loop.
+-- A walk by hand: the borrow is opened, the tally behind it is copied out and passed to `with_vertex` with all other parameters, and the borrow is closed at what `with_vertex` returned.
 use mathlib.Core.Path.{_≡_, refl}
 use Prim.Native.Nat.{ℕ, _*_, _≤_, _<_}
 use mathlib.Core.List.{[], _∷_, List}
@@ -41,9 +41,9 @@ use denote.Triple.Table.{entered, cited}
 use denote.Triple.Walked.{says, needs, Stays, stay-ref, stay-dropped, walkOf, goes-ref, Walks, ends-at, walked, walk-meets}
 use denote.Triple.Clauses.{ensured, lasts}
 use denote.Exit.{yes}
-use Rattle.quantities.specs.Reach.{lengthReach}
-use Rattle.tree.specs.Arrays.{HoldsTree}
-use Rattle.tree.specs.Tallies.{counted}
+use Rattle.quantities.specs.Inner.Reach.{lengthReach}
+use Rattle.tree.specs.Inner.Arrays.{HoldsTree}
+use Rattle.tree.specs.Inner.Tallies.{counted}
 use Rattle.tree.specs.declared.measure.Tally.{Tally}
 use Rattle.tree.proofs.measure.Tally as T
 use Rattle.tree.proofs.measure.Tally.Laws as T′

@@ -1,8 +1,11 @@
+-- The length of the edge above v: both its ends are vertices of the tree, in range, so the distance between them fits. No loop.
 use borrow.Author.Needs.{needs}
 use mathlib.Core.Path.{sym, ap₂, _∙_, subst}
-use Rattle.quantities.specs.Reach.{PointWithin, coordinateReach}
+use Rattle.quantities.specs.Ranges.{PointWithin}
+use Rattle.quantities.specs.Inner.Reach.{coordinateReach}
 use Rattle.quantities.specs.Distance.{distance}
-use Rattle.tree.proofs.Laws.Measuring.{point-reach, parent-inside, near, long}
+use Rattle.tree.proofs.Laws.Measures.InReach.{point-reach}
+use Rattle.tree.proofs.Laws.Measures.MeasuredArrays.{parent-inside, near, long}
 use Rattle.tree.proofs.measure.edge_length.Statement.{statement}
 use Rattle.tree.proofs.measure.edge_length.Tie as tie
 

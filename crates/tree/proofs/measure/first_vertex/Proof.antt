@@ -1,10 +1,11 @@
+-- The tally of vertex 1, a sink: its slack as it was read, and the length of the edge above it. No loop.
 use mathlib.Core.Path.{_∙_}
 use borrow.Author.Needs.{needs}
 use lib.ListN.{getD}
 use lib.IntN.{pos}
 use mir.Facts.{toZ-ofZ}
-use Rattle.quantities.specs.Linear.{fit}
-use Rattle.tree.proofs.Laws.Measuring.{tally-same}
+use Rattle.quantities.specs.Inner.Linear.{fit}
+use Rattle.tree.proofs.Laws.Measures.MeasuredArrays.{tally-same}
 use Rattle.tree.proofs.measure.first_vertex.Statement.{statement}
 use Rattle.tree.proofs.measure.first_vertex.Tie as tie
 

@@ -1,6 +1,5 @@
--- `measure` meets its contract: a walk of its MIR, by hand, with a loop whose every turn lends the tally to `count_vertex` for a lifetime of its own.
--- The loop's invariant is the whole context (`At`): the tally in memory is that of the vertices below v (`Tallied`). The measure is what is left of the vertices.
--- All that the proof knows of `first_vertex` and `count_vertex` is that each meets its contract.
+-- Each vertex is counted once: the tally is that of the vertices below v (Tallied).
+-- A walk by hand, with a loop whose every turn lends the tally to `count_vertex` for a lifetime of its own; the loop's invariant is the whole context (`At`).
 use native.Mathlib.Omega.{arith}
 use mathlib.Core.Path.{_≡_, refl, sym, ap, subst}
 use Prim.Native.Nat.{ℕ, zero, suc, _+_, _*_, _-_, _≤_, _<_, _^_}
@@ -49,11 +48,11 @@ use denote.Triple.Table.{entered, cited}
 use denote.Triple.Walked.{says, needs, Stays, stay-dropped, walkOf, Walks, onExit, ends-at, walked, walk-meets}
 use denote.Triple.Clauses.{ensured, lasts}
 use denote.Exit.{yes}
-use Rattle.quantities.specs.Reach.{lengthReach}
-use Rattle.tree.specs.Arrays.{lengthAbove, HoldsTree}
-use Rattle.tree.specs.Tallies.{slackAt, firstCounted, counted, leastSlack, edgeSum}
+use Rattle.quantities.specs.Inner.Reach.{lengthReach}
+use Rattle.tree.specs.Inner.Arrays.{lengthAbove, HoldsTree}
+use Rattle.tree.specs.Inner.Tallies.{slackAt, firstCounted, counted, leastSlack, edgeSum}
 use Rattle.tree.specs.declared.measure.Tally.{Tally}
-use Rattle.tree.proofs.Laws.Measuring.{length-limit, Tallied, tally-begins, tally-steps, tally-small, tally-ends}
+use Rattle.tree.proofs.Laws.Measures.MeasuredArrays.{length-limit, Tallied, tally-begins, tally-steps, tally-small, tally-ends}
 use Rattle.tree.proofs.measure.Tally as T
 use Rattle.tree.proofs.measure.Tally.Laws as T′
 use Rattle.tree.proofs.measure.first_vertex as first-vertex

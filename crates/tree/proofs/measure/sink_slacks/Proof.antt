@@ -1,37 +1,65 @@
-use Prim.Native.Nat.{ℕ, _+_, _-_, _≤_, _<_}
-use mathlib.Core.Path.{_≡_, refl, _∙_}
-use native.Mathlib.Omega.{arith}
+-- Each sink's slack takes the place of what is spent: the sinks below s have their slacks, and from s on the array is as it was.
 use borrow.Author.Needs.{needs}
+use native.Mathlib.Omega.{arith}
+use Prim.Native.Nat.{ℕ, _+_, _-_, _≤_, _<_}
+use mathlib.Core.Path.{_≡_, refl, ap₂, _∙_}
 use lib.ListN.{length, length-set}
-use lib.IntN.{ℤ, pos}
+use lib.Seq.{getD-set-other}
 use mir.Facts.{toZ-ofZ}
-use Rattle.quantities.specs.Linear.{rd, fit}
-use Rattle.tree.specs.Measures.{slack}
-use Rattle.tree.specs.Arrays.{netOf, treeOf}
-use Rattle.tree.specs.Tallies.{slackAt}
-use Rattle.tree.proofs.Laws.Places.{filled-more}
+use Rattle.quantities.specs.Inner.Linear.{whole, rd, fit}
+use Rattle.tree.proofs.Laws.Lists.Filling.{filled-more}
+use lib.IntN.{pos, _-ℤ_}
+use Rattle.tree.specs.Inner.Tallies.{slackAt}
 use Rattle.tree.proofs.measure.sink_slacks.Statement.{statement}
 use Rattle.tree.proofs.measure.sink_slacks.Tie as tie
 
 abbrev Inv-loop : tie.InvT-loop
-Inv-loop h n parents xs ys required slacks₀ s₀ slacks s =
+Inv-loop n required slacks₀ s₀ slacks s =
     (1 ≤ s) × (s ≤ n + 1) × (length slacks ≡ length slacks₀)
-    × ((k : ℕ) → 1 ≤ k → k < s → slackAt slacks k ≡ slack (netOf h n xs ys required) (treeOf n parents xs ys) k)
+    × ((k : ℕ) → 1 ≤ k → k < s → slackAt slacks k ≡ slackAt required k -ℤ slackAt slacks₀ k) × ((k : ℕ) → s ≤ k → slackAt slacks k ≡ slackAt slacks₀ k)
 
 abbrev μ-loop : tie.MeasureT-loop
-μ-loop h n parents xs ys required slacks₀ s₀ slacks s = n + 1 - s
+μ-loop n required slacks₀ s₀ slacks s = n + 1 - s
 
 loop-holds : tie.Need-loop-holds Inv-loop μ-loop
-loop-holds c = (omega arith, omega arith, refl, λ k a b. absurd (omega arith))
+loop-holds c = (omega arith, omega arith, refl, λ k a b. absurd (omega arith), λ k a. refl)
 
-sink-slack-requires : tie.Need-sink-slack-requires Inv-loop μ-loop
-sink-slack-requires c κs = search needs
+mul-of : tie.Need-mul-of Inv-loop μ-loop
+mul-of c = search needs
+
+shared-slice-copy-out-of : tie.Need-shared-slice-copy-out-of Inv-loop μ-loop
+shared-slice-copy-out-of c = search needs
+
+of-requires : tie.Need-of-requires Inv-loop μ-loop
+of-requires c κs = search needs
+
+mul-of-2 : tie.Need-mul-of-2 Inv-loop μ-loop
+mul-of-2 c = search needs
+
+slice-copy-out-of : tie.Need-slice-copy-out-of Inv-loop μ-loop
+slice-copy-out-of c = search needs
+
+of-requires-2 : tie.Need-of-requires-2 Inv-loop μ-loop
+of-requires-2 c κs = search needs
+
+-- the two numbers, as they were read
+arrival : (c : tie.After-of2 Inv-loop μ-loop) → c .before .before .of .result .0 ≡ slackAt (c .before .before .before .before .before .before .args .required .now) (c .before .before .before .before .before .loop .s)
+arrival c = c .before .before .of .ensures ∙ toZ-ofZ (fit (slackAt (c .before .before .before .before .before .before .args .required .now) (c .before .before .before .before .before .loop .s)) (c .before .before .before .of-arg .given))
+
+spent : (c : tie.After-of2 Inv-loop μ-loop) → c .of2 .result .0 ≡ slackAt (c .before .before .before .before .before .before .args .slacks .now) (c .before .before .before .before .before .loop .s)
+spent c = c .of2 .ensures ∙ toZ-ofZ (fit (slackAt (c .before .before .before .before .before .loop .slacks) (c .before .before .before .before .before .loop .s)) (c .before .of-arg2 .given)) ∙ c .before .before .before .before .before .loop .inv .4 _ (omega arith)
+
+minus-requires : tie.Need-minus-requires Inv-loop μ-loop
+minus-requires c κs =
+    let s = c .before .before .before .before .before .before in
+    let w = s .pre .2 (c .before .before .before .before .before .loop .s) (omega arith) (omega arith) in
+    omega (arith, whole, arrival c, spent c)
 
 value-requires : tie.Need-value-requires Inv-loop μ-loop
 value-requires c κs = search needs
 
-mul-t12 : tie.Need-mul-t12 Inv-loop μ-loop
-mul-t12 c = search needs
+mul-t16 : tie.Need-mul-t16 Inv-loop μ-loop
+mul-t16 c = search needs
 
 slice-set-from-slacks : tie.Need-slice-set-from-slacks Inv-loop μ-loop
 slice-set-from-slacks c = search needs
@@ -42,23 +70,28 @@ add-s c = search needs
 loop-less : tie.Need-loop-less Inv-loop μ-loop
 loop-less c = search needs
 
--- what is stored is the sink's slack
-abbrev slacked : tie.After-value Inv-loop μ-loop → ℕ → ℤ
-slacked c = let a = c .before .before .before .before .before .args in slack (netOf (a .h) (a .n) (a .xs .now) (a .ys .now) (a .required .now)) (treeOf (a .n) (a .parents .now) (a .xs .now) (a .ys .now))
-
-stored : (c : tie.After-value Inv-loop μ-loop) → rd (c .value .result) ≡ slacked c (c .before .before .before .loop .s)
-stored c = toZ-ofZ (fit (c .value .result) (c .value .ok)) ∙ c .value .ensures ∙ c .before .sink-slack .ensures
+-- what is stored is the difference
+stored : (c : tie.After-value Inv-loop μ-loop)
+    → rd (c .value .result) ≡ slackAt (c .before .before .before .before .before .before .before .before .args .required .now) (c .before .before .before .before .before .before .before .loop .s) -ℤ slackAt (c .before .before .before .before .before .before .before .before .args .slacks .now) (c .before .before .before .before .before .before .before .loop .s)
+stored c = toZ-ofZ (fit (c .value .result) (c .value .ok)) ∙ c .value .ensures ∙ c .before .minus .ensures ∙ ap₂ _-ℤ_ (arrival (c .before .before)) (spent (c .before .before))
 
 loop-again : tie.Need-loop-again Inv-loop μ-loop
 loop-again c =
-    let v = c .before .before .before .loop in
-    (omega arith, omega arith, simp length-set (v .inv .2), filled-more (pos 0) (slacked c) 1 (v .slacks) (v .s) (rd (c .value .result)) (omega arith) (stored c) (v .inv .3))
+    let s = c .before .before .before .before .before .before .before .before in
+    let w = c .before .before .before .before .before .before .before .loop in (
+      omega arith,
+      omega arith,
+      simp length-set (w .inv .2),
+      filled-more (pos 0) (λ k. slackAt (s .args .required .now) k -ℤ slackAt (s .args .slacks .now) k) 1 (w .slacks) (w .s) (rd (c .value .result)) (omega arith) (stored c) (w .inv .3),
+      λ k a. getD-set-other (w .slacks) (w .s) k (rd (c .value .result)) (pos 0) (omega arith) ∙ w .inv .4 k (omega arith),
+    )
 
 same-length : tie.Need-same-length Inv-loop μ-loop
 same-length c = search needs
 
 returns : tie.Need-returns Inv-loop μ-loop
-returns c = λ k a b. c .before .loop .inv .3 k a (omega arith)
+returns c =
+    λ k a b. c .before .loop .inv .3 k a (omega arith)
 
 pub sink-slacks-spec : {M : Type 1} → statement M
 sink-slacks-spec =
@@ -67,9 +100,15 @@ sink-slacks-spec =
     Inv-loop
     μ-loop
     loop-holds
-    sink-slack-requires
+    mul-of
+    shared-slice-copy-out-of
+    of-requires
+    mul-of-2
+    slice-copy-out-of
+    of-requires-2
+    minus-requires
     value-requires
-    mul-t12
+    mul-t16
     slice-set-from-slacks
     add-s
     loop-less

@@ -1,3 +1,4 @@
+-- The tally with v: the edge above v adds to the wire, and the slack of v counts only where v is a sink. No loop.
 use mathlib.Core.Path.{ap, _∙_}
 use native.Mathlib.Omega.{arith}
 use borrow.Author.Needs.{needs}
@@ -5,9 +6,9 @@ use borrow.Author.Tests.{lt-ltb, le-ltb}
 use lib.ListN.{getD}
 use lib.IntN.{pos}
 use mir.Facts.{toZ-ofZ}
-use Rattle.quantities.specs.Linear.{fit}
-use Rattle.quantities.specs.Order.{minℤ}
-use Rattle.tree.proofs.Laws.Measuring.{length-limit, tally-same}
+use Rattle.quantities.specs.Inner.Linear.{fit}
+use Rattle.quantities.specs.MinMax.{minℤ}
+use Rattle.tree.proofs.Laws.Measures.MeasuredArrays.{length-limit, tally-same}
 use Rattle.tree.proofs.measure.with_vertex.Statement.{statement}
 use Rattle.tree.proofs.measure.with_vertex.Tie as tie
 

@@ -1,10 +1,9 @@
--- `places::clear` meets its contract. The loop's invariant: each place passed holds 0, and the length is kept.
--- The measure is what is left of m. Assumes nothing.
+-- The first m places hold 0: each place below u does.
 use Prim.Native.Nat.{ℕ, _<_, _-_}
 use mathlib.Core.Path.{_≡_, refl, _∙_}
 use native.Mathlib.Omega.{arith}
 use lib.ListN.{length, getD, length-set}
-use Rattle.tree.proofs.Laws.Places.{filled-more}
+use Rattle.tree.proofs.Laws.Lists.Filling.{filled-more}
 use Rattle.tree.proofs.places.clear.Statement.{statement}
 use Rattle.tree.proofs.places.clear.Tie as tie
 

@@ -1,16 +1,17 @@
-use Prim.Native.Nat.{ℕ, _*_, _-_, _≤_}
+-- The arrays hold the planned tree, and its worst slack and wire are returned: what each step gives is what the next one requires. No loop.
+use Prim.Native.Nat.{ℕ, _*_, _≤_}
 use mathlib.Core.Path.{_≡_, _∙_}
 use mathlib.Core.List.{List}
 use native.Mathlib.Omega.{arith}
 use lib.ListN.{length}
 use Rattle.tree.specs.Net.{Net}
 use Rattle.tree.specs.Planning.{tieRule, planParents}
-use Rattle.tree.specs.Arrays.{netOf, parentsOf, HoldsTree}
-use Rattle.tree.specs.Insertion.{Ready, Lined, Placed}
-use Rattle.tree.proofs.Laws.Arrays.{size-is}
+use Rattle.tree.specs.Inner.Arrays.{netOf, parentsOf, HoldsTree}
+use Rattle.tree.specs.Inner.Insertion.{Ready, Lined, Placed}
+use Rattle.tree.proofs.Laws.Arrays.NetAndTree.{size-is}
 use Rattle.tree.specs.Settling.{planBy, plan}
-use Rattle.tree.proofs.Laws.Measuring.{worst-is, wire-is}
-use Rattle.tree.proofs.Laws.PlanArrays.{some-few, ready, placed, planned-legal, planned-parents, planned-tree, planned-holds, planned-wire}
+use Rattle.tree.proofs.Laws.Measures.MeasuredArrays.{worst-is, wire-is}
+use Rattle.tree.proofs.Laws.Arrays.PlanArrays.{some-few, ready, placed, planned-legal, planned-parents, planned-tree, planned-holds, planned-wire}
 use borrow.Author.Needs.{needs}
 use Rattle.tree.proofs.plan.plan.Statement.{statement}
 use Rattle.tree.proofs.plan.plan.Tie as tie

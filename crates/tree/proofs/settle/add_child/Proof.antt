@@ -1,3 +1,4 @@
+-- v becomes the first child of p where p has none yet, else the second: by the test. No loop.
 use mathlib.Core.Path.{refl}
 use borrow.Author.Needs.{needs}
 use Rattle.tree.proofs.settle.add_child.Statement.{statement}

@@ -1,10 +1,11 @@
+-- The two children of each branch point are listed: each vertex has its children among 1 to v - 1, the lower number first (Listed).
 use Prim.Native.Nat.{_*_, _-_, _≤_}
 use mathlib.Core.Path.{_≡_, refl}
 use native.Mathlib.Omega.{arith}
 use lib.ListN.{length}
 use Rattle.tree.specs.Tree.{parentOf}
-use Rattle.tree.specs.Arrays.{parentsOf}
-use Rattle.tree.proofs.Laws.Children.{Listed, listed-none, listed-step, listed-all}
+use Rattle.tree.specs.Inner.Arrays.{parentsOf}
+use Rattle.tree.proofs.Laws.Settling.Children.{Listed, listed-none, listed-step, listed-all}
 use Rattle.tree.proofs.settle.list_children.Statement.{statement}
 use Rattle.tree.proofs.settle.list_children.Tie as tie
 

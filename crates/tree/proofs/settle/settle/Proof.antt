@@ -1,11 +1,12 @@
+-- The tree is settled from the leaves up: the branch points among the first i of the order stand in place, root and sinks as they stood (Settled).
 use native.Mathlib.Decide.{decLe}
 use Prim.Native.Nat.{_+_, _*_, _-_, _≤_, _<_}
 use mathlib.Core.Path.{refl}
 use native.Mathlib.Omega.{arith}
 use borrow.Author.Needs.{needs}
-use lib.ListN.{length, getD, set}
-use Rattle.tree.specs.Arrays.{parentsOf}
-use Rattle.tree.proofs.Laws.SettleLoop.{Settled, children-in, settled-none, settled-sink, settled-step, settled-all}
+use lib.ListN.{getD}
+use Rattle.tree.specs.Inner.Arrays.{parentsOf}
+use Rattle.tree.proofs.Laws.Settling.SettleLoop.{Settled, children-in, settled-none, settles-sink, settled-step, settled-all}
 use Rattle.tree.proofs.settle.settle.Statement.{statement}
 use Rattle.tree.proofs.settle.settle.Tie as tie
 
@@ -68,7 +69,7 @@ loop-again c =
     let w = s .pre .0 .2 .inside (l .i) (omega arith) in
     let step : Dec (v ≤ a .n) → Settled (a .n) (a .parents .now) (a .upward .now) (a .xs .now) (a .ys .now) (l .i + 1) (m .last .1 .0) (m .last .1 .1 .0)
     = λ q. elim q [
-      | yes h ↦ settled-sink (a .n) (a .parents .now) (a .upward .now) (a .xs .now) (a .ys .now) (l .i) (l .xs) (l .ys) (m .last .1 .0) (m .last .1 .1 .0) h (m .ensures .0 h .0) (m .ensures .0 h .1) (l .inv .1)
+      | yes h ↦ settles-sink (a .n) (a .parents .now) (a .upward .now) (a .xs .now) (a .ys .now) (l .i) (l .xs) (l .ys) (m .last .1 .0) (m .last .1 .1 .0) h (m .ensures .0 h .0) (m .ensures .0 h .1) (l .inv .1)
       | no h ↦ settled-step (a .n) (a .parents .now) (a .upward .now) (a .xs .now) (a .ys .now) (s .pre .0 .1) (s .pre .0 .2) (l .i) v kids (l .xs) (l .ys) (m .last .1 .0) (m .last .1 .1 .0) (omega arith) refl (omega arith) (omega arith) (omega arith) (k .ensures v (omega arith) (w .1)) (m .ensures .1 (omega arith) .0) (m .ensures .1 (omega arith) .1) (l .inv .1)
     ] in
     (omega arith, step (decLe v (a .n)))

@@ -1,9 +1,10 @@
+-- Branch point b moves to the median of the root and its two children: the numbers read and stored are those of the three points. No loop.
 use mathlib.Core.Path.{ap, _∙_}
 use mir.Facts.{toZ-ofZ}
 use lib.ListN.{set}
 use Rattle.quantities.specs.declared.point.Point.{Point}
-use Rattle.quantities.specs.Linear.{fit}
-use Rattle.tree.proofs.Laws.SettleLoop.{median-at}
+use Rattle.quantities.specs.Inner.Linear.{fit}
+use Rattle.tree.proofs.Laws.Settling.SettleLoop.{median-at}
 use borrow.Author.Needs.{needs}
 use Rattle.tree.proofs.settle.settle_one.Statement.{statement}
 use Rattle.tree.proofs.settle.settle_one.Tie as tie

@@ -1,7 +1,7 @@
-use Prim.Native.Nat.{_-_, _<_}
+-- A branch point moves to its median and a sink stays: by the test of v against n. No loop.
+use Prim.Native.Nat.{_<_}
 use mathlib.Core.Path.{refl}
 use native.Mathlib.Omega.{arith}
-use lib.ListN.{length, set}
 use borrow.Author.Needs.{needs}
 use Rattle.tree.proofs.settle.settle_vertex.Statement.{statement}
 use Rattle.tree.proofs.settle.settle_vertex.Tie as tie

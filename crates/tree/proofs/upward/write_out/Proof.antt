@@ -3,9 +3,9 @@ use Prim.Native.Nat.{ℕ, suc, _-_, _≤_, _<_}
 use mathlib.Core.Path.{_≡_, refl, sym, ap, _∙_, subst}
 use mathlib.Core.List.{List}
 use native.Mathlib.Omega.{arith}
-use lib.ListN.{length, getD, set, length-set, List·getD-eq-default}
-use Rattle.tree.specs.Arrays.{Chained}
-use Rattle.tree.proofs.Laws.Upward.{walk-in, written-next}
+use lib.ListN.{length, getD, length-set, List·getD-eq-default}
+use Rattle.tree.specs.Inner.Arrays.{Chained}
+use Rattle.tree.proofs.Laws.Trees.Upward.{walk-in, written-next}
 use Rattle.tree.proofs.upward.write_out.Statement.{statement}
 use Rattle.tree.proofs.upward.write_out.Tie as tie
 

@@ -1,6 +1,7 @@
+-- A number with one digit more: at the cap or past it the cap is held, below it the number itself, and no step overflows. No loop.
 use borrow.Author.Needs.{needs}
 use native.Mathlib.Omega.{arith}
-use Rattle.formats.proofs.Laws.Saturation.{number-path}
+use Rattle.formats.proofs.Laws.Numbers.Saturation.{number-path}
 use Rattle.formats.proofs.number.Number.digit.Statement.{statement}
 use Rattle.formats.proofs.number.Number.digit.Tie as tie
 

@@ -1,5 +1,6 @@
+-- The number itself, by its sign: below the cap both it and its negative fit. No loop.
 use borrow.Author.Needs.{needs}
-use Rattle.formats.proofs.Laws.Signs.{difference-fits, minus-back, plain-back}
+use Rattle.formats.proofs.Laws.Numbers.Signs.{difference-fits, minus-back, plain-back}
 use Rattle.formats.proofs.number.Number.value.Statement.{statement}
 use Rattle.formats.proofs.number.Number.value.Tie as tie
 

@@ -1,6 +1,7 @@
+-- The lesser of two times: by the test. No loop.
 use native.Mathlib.Omega.{arith}
-use Rattle.quantities.specs.Linear.{whole, fit}
-use Rattle.quantities.proofs.Laws.Order.{min-is}
+use Rattle.quantities.specs.Inner.Linear.{whole, fit}
+use Rattle.quantities.proofs.Laws.MinMax.{min-is}
 use Rattle.quantities.proofs.time.Time.least.Statement.{statement}
 use Rattle.quantities.proofs.time.Time.least.Tie as tie
 

@@ -1,7 +1,8 @@
+-- The difference of two times: it fits for times in reach. No loop.
 use native.Mathlib.Omega.{arith}
 use mir.Syntax.{w64}
 use mir.Val.{SFits}
-use Rattle.quantities.specs.Linear.{whole, -is, rd, dif-is}
+use Rattle.quantities.specs.Inner.Linear.{whole, -is, rd, dif-is}
 use Rattle.quantities.proofs.time.Time.minus.Statement.{statement}
 use Rattle.quantities.proofs.time.Time.minus.Tie as tie
 

@@ -1,7 +1,8 @@
+-- The sum of two times: it fits for times in reach. No loop.
 use native.Mathlib.Omega.{arith}
 use mir.Syntax.{w64}
 use mir.Val.{SFits}
-use Rattle.quantities.specs.Linear.{whole, +is, rd, sum-is}
+use Rattle.quantities.specs.Inner.Linear.{whole, +is, rd, sum-is}
 use Rattle.quantities.proofs.time.Time.plus.Statement.{statement}
 use Rattle.quantities.proofs.time.Time.plus.Tie as tie
 

@@ -1,12 +1,12 @@
+-- The product of a time and a count: it fits, since both are in their reach. No loop.
 use native.Mathlib.Omega.{arith}
 use mathlib.Core.Path.{sym, subst, ap₂}
-use lib.IntN.{_*ℤ_}
+use lib.IntN.{pos, _*ℤ_}
 use mir.Facts.{toZ-ofZ}
-use Rattle.quantities.specs.Reach.{termReach, factorReach}
+use Rattle.quantities.specs.Inner.Reach.{termReach, factorReach}
 use mir.Syntax.{w64}
 use mir.Val.{SFits}
-use lib.IntN.{pos}
-use Rattle.quantities.specs.Linear.{whole, natAbs-is, abs-le, mul-le, mul-is}
+use Rattle.quantities.specs.Inner.Linear.{whole, natAbs-is, abs-le, mul-le, mul-is}
 use borrow.Author.Needs.{needs}
 use Rattle.quantities.proofs.time.Time.times.Statement.{statement}
 use Rattle.quantities.proofs.time.Time.times.Tie as tie

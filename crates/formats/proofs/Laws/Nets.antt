@@ -1,0 +1,5 @@
+-- The net text: its head, its sinks, the whole.
+pub mod Heads
+pub mod SinkLines
+pub mod SinkTexts
+pub mod NetTexts

@@ -1,0 +1,10 @@
+-- Each constant is the same number as in specs/Limits, by computation.
+use mathlib.Core.Path.{refl}
+use Rattle.formats.proofs.limits.limits_agree.Statement.{statement}
+use Rattle.formats.proofs.limits.limits_agree.Tie as tie
+
+returns : tie.Need-returns
+returns c = (refl, (refl, refl))
+
+pub limits-agree-spec : {M : Type 1} → statement M
+limits-agree-spec = tie.close (tie.spec returns)

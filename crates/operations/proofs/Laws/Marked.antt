@@ -1,0 +1,153 @@
+-- The marked nets and lines that speak of texts, by computation. Assumes nothing.
+use Prim.Native.Nat.{ℕ, _≤_}
+use mathlib.Core.Path.{_≡_, refl, ap, _∙_}
+use mathlib.Core.List.{List, [], _∷_}
+use native.Mathlib.Omega.{arith}
+use lib.ListN.{length}
+use lib.IntN.{ℤ, pos, negℤ}
+use Rattle.quantities.specs.Inner.Linear.{whole}
+use Rattle.quantities.specs.MinMax.{minℤ, maxℤ}
+use Rattle.quantities.specs.Floor.{floorDiv}
+use Rattle.quantities.specs.Distance.{span, distance}
+use Rattle.quantities.specs.Median.{median, medianPoint}
+use Rattle.quantities.specs.Delay.{delay}
+use Rattle.tree.specs.Net.{Net, size}
+use Rattle.tree.specs.Tree.{Tree}
+use Rattle.tree.specs.Measures.{worstSlack, wireLength}
+use Rattle.tree.specs.Kraft.{kraftMaximum, searchDown}
+use Rattle.tree.specs.Planning.{tieRule}
+use Rattle.tree.specs.Settling.{plan, planBy}
+use Rattle.tree.specs.Marked.{netA, rootNearest, nearerSink, point}
+use Rattle.tree.proofs.Laws.Planning.Marked as tree
+use Rattle.formats.specs.Bytes.{bytes}
+use Rattle.formats.specs.Decimal.{digits, showNat, show, lead, natural, field}
+use Rattle.formats.specs.Decimal.{value as digitsValue}
+use Rattle.formats.specs.Line.{numberThen, rowIn, begins, lineIn}
+use Rattle.formats.specs.Reading.{Outcome, value, refused, andThen}
+use Rattle.formats.specs.declared.refusal.Text.the-variants.{InNet}
+use Rattle.formats.specs.declared.refusal.Refusal.the-variants.{OutOfRange, Unreachable, FarPin}
+use Rattle.formats.specs.NetText.{readNet}
+use Rattle.formats.specs.ListingText.{Listing, listingText, readListing}
+use Rattle.operations.specs.Accepting.{acceptTree}
+use Rattle.operations.specs.Answers.{planOf, planListing, planNet, judgement, judgeOf, Judgement}
+use Rattle.operations.specs.Marked.{textA, textA1, listingA, textRootNearest, listingRootNearest, textNearerSink, listingNearerSink, pinText, Marked}
+use Rattle.formats.proofs.Laws.Nets.NetTexts.{net-sound}
+use Rattle.operations.proofs.Laws.Answers.{plan-refused, judge-refused, Ends, unreachable, short, written, ends}
+use Rattle.operations.proofs.Laws.Judging.{judge-read}
+
+-- ---- what the texts are read as
+
+netA1 : Net
+netA1 = record { root = netA .root; branch = netA .branch; wire = netA .wire; need = pos 1; sinks = netA .sinks }
+
+read-A : readNet textA ≡ value netA
+unfolding readNet numberThen rowIn begins lineIn field natural digitsValue lead distance span
+read-A = refl
+
+read-A1 : readNet textA1 ≡ value netA1
+unfolding netA1 readNet numberThen rowIn begins lineIn field natural digitsValue lead distance span
+read-A1 = refl
+
+tree-of : List ℕ → Tree
+tree-of parents = record { parents = parents; points = point (pos 4) (pos 0) ∷ (point (pos 4) (pos 0) ∷ []) }
+
+read-root : readNet textRootNearest ≡ value rootNearest
+unfolding readNet numberThen rowIn begins lineIn field natural digitsValue lead distance span
+read-root = refl
+
+read-sink : readNet textNearerSink ≡ value nearerSink
+unfolding readNet numberThen rowIn begins lineIn field natural digitsValue lead distance span
+read-sink = refl
+
+abbrev judgedTree : Net → Listing → Outcome Judgement
+judgedTree N G = andThen (acceptTree N G) λ G. value (judgement (record { net = N; listing = G }))
+
+-- a net that is read as N and a listing that is read as G, judged
+judged-over : (net : List ℕ) (N : Net) → readNet net ≡ value N → (s : List ℕ) (G : Listing) → readListing (size N) s ≡ value G → judgeOf net s ≡ judgedTree N G
+judged-over net N r s G e = judge-read net N r s ∙ ap (λ o. andThen (andThen o (acceptTree N)) (λ G. value (judgement (record { net = N; listing = G })))) e
+
+judged : (s : List ℕ) (G : Listing) → readListing 3 s ≡ value G → judgeOf textA s ≡ judgedTree netA G
+judged s G e = judged-over textA netA read-A s G e
+
+listed : ℤ → ℕ → List ℕ → Listing
+listed slack wire parents = record { slack = slack; wire = wire; tree = tree-of parents }
+
+-- ---- A and its plan
+
+plan-A : planListing netA ≡ listingA
+unfolding planListing listingText digits showNat show worstSlack wireLength plan planBy minℤ maxℤ median medianPoint delay distance span
+plan-A = refl
+
+slack-A : worstSlack netA (plan netA) ≡ pos 0
+unfolding worstSlack plan planBy minℤ maxℤ median medianPoint delay distance span
+slack-A = refl
+
+wire-A : wireLength netA (plan netA) ≡ 32
+unfolding wireLength worstSlack plan planBy minℤ maxℤ median medianPoint delay distance span
+wire-A = refl
+
+A-planned : (room : ℕ) → length listingA ≤ room → planOf textA room ≡ value (record { slack = pos 0; wire = 32; bytes = listingA })
+unfolding planOf
+A-planned room h = ap (λ o. andThen o (λ N. planNet N room)) read-A ∙ go (ends netA room)
+  where
+    go : Ends netA room → planNet netA room ≡ value (record { slack = pos 0; wire = 32; bytes = listingA })
+    go (unreachable g f) = absurd (omega (arith, whole, slack-A))
+    go (short g l f) = absurd (omega (arith, ap length plan-A))
+    go (written g l f) = f ∙ (λ i. value (record { slack = slack-A i; wire = wire-A i; bytes = plan-A i }))
+
+A-unreachable : (room : ℕ) → planOf textA1 room ≡ refused Unreachable
+unfolding planOf netA1 worstSlack plan planBy minℤ maxℤ median medianPoint delay distance span
+A-unreachable room = ap (λ o. andThen o (λ N. planNet N room)) read-A1
+
+A-judged : judgeOf textA listingA ≡ value (record { slack = pos 0; wire = 32; best = pos 0 })
+unfolding listed tree-of readListing numberThen rowIn begins lineIn field natural digitsValue lead worstSlack wireLength minℤ delay distance span kraftMaximum searchDown floorDiv
+A-judged = judged listingA (listed (pos 0) 32 (5 ∷ (5 ∷ (4 ∷ (0 ∷ (4 ∷ [])))))) refl
+
+-- ---- the nets of request 1
+
+plan-root : planListing rootNearest ≡ listingRootNearest
+unfolding planListing listingText digits showNat show worstSlack wireLength plan planBy tieRule minℤ maxℤ median medianPoint delay distance span
+plan-root = refl
+
+plan-sink : planListing nearerSink ≡ listingNearerSink
+unfolding planListing listingText digits showNat show worstSlack wireLength plan planBy tieRule minℤ maxℤ median medianPoint delay distance span
+plan-sink = refl
+
+root-judged : judgeOf textRootNearest listingRootNearest ≡ value (record { slack = negℤ (pos 40); wire = 10; best = negℤ (pos 40) })
+unfolding readListing numberThen rowIn begins lineIn field natural digitsValue lead worstSlack wireLength minℤ delay distance span kraftMaximum searchDown floorDiv
+root-judged = judged-over textRootNearest rootNearest read-root listingRootNearest
+    (record { slack = negℤ (pos 40); wire = 10; tree = record { parents = 4 ∷ (4 ∷ (5 ∷ (5 ∷ (0 ∷ [])))); points = point (pos 10) (pos 0) ∷ (point (pos 1) (pos 0) ∷ []) } }) refl
+
+sink-judged : judgeOf textNearerSink listingNearerSink ≡ value (record { slack = negℤ (pos 40); wire = 21; best = negℤ (pos 40) })
+unfolding readListing numberThen rowIn begins lineIn field natural digitsValue lead worstSlack wireLength minℤ delay distance span kraftMaximum searchDown floorDiv
+sink-judged = judged-over textNearerSink nearerSink read-sink listingNearerSink
+    (record { slack = negℤ (pos 40); wire = 21; tree = record { parents = 4 ∷ (5 ∷ (5 ∷ (0 ∷ (4 ∷ [])))); points = point (pos 0) (pos 0) ∷ (point (pos 0) (pos 10) ∷ []) } }) refl
+
+pub marked : Marked
+unfolding listed tree-of readNet readListing numberThen rowIn begins lineIn field natural digitsValue lead worstSlack wireLength minℤ delay distance span
+marked = record {
+  measures = tree.marked;
+  A-format = net-sound textA netA read-A;
+  A-listing = plan-A;
+  A-plan = A-planned;
+  A-judge = A-judged;
+  A-need = A-unreachable;
+  A-slack = judged _ (listed (pos 1) 32 (5 ∷ (5 ∷ (4 ∷ (0 ∷ (4 ∷ [])))))) refl;
+  A-wire = judged _ (listed (pos 0) 31 (5 ∷ (5 ∷ (4 ∷ (0 ∷ (4 ∷ [])))))) refl;
+  ring = judged _ (listed (pos 0) 32 (0 ∷ (4 ∷ (5 ∷ (5 ∷ (4 ∷ [])))))) refl;
+  four-children = judged _ (listed (pos 0) 32 (4 ∷ (4 ∷ (4 ∷ (0 ∷ (4 ∷ [])))))) refl;
+  root-format = net-sound textRootNearest rootNearest read-root;
+  root-listing = plan-root;
+  root-judge = root-judged;
+  sink-format = net-sound textNearerSink nearerSink read-sink;
+  sink-listing = plan-sink;
+  sink-judge = sink-judged;
+  across-near = net-sound (pinText "60000,0" "100000,0") _ refl;
+  across-plan = plan-refused (pinText "0,0" "100000,0") (FarPin 6) refl;
+  across-judge = judge-refused (pinText "0,0" "100000,0") (FarPin 6) refl;
+  across-range = plan-refused (pinText "0,0" "100001,0") (OutOfRange InNet 6) refl;
+  at-limit = net-sound (pinText "0,0" "40000,0") _ refl;
+  past-limit = plan-refused (pinText "0,0" "40001,0") (FarPin 6) refl;
+  both-at-limit = net-sound (pinText "-10000,5000" "5000,-20000") _ refl;
+  both-past-limit = plan-refused (pinText "-10000,5000" "5000,-20001") (FarPin 6) refl;
+}

@@ -1,0 +1,8 @@
+-- What a reviewer believes of the operations, bottom first.
+pub mod Accepting
+pub mod Answers
+pub mod Demands
+pub mod FarPins
+pub mod Marked
+-- What serves the contracts of inner functions. Nothing of it need be believed.
+pub mod Inner

@@ -1,0 +1,84 @@
+-- The marked nets and lines of document 01, those with a star, and those of requests 1 and 2 of 02, as one statement: what is said of texts here, the rest in the tree's own.
+use Prim.Native.Nat.{ℕ, _≤_}
+use mathlib.Core.Path.{_≡_}
+use mathlib.Core.List.{List, [], _∷_, _++_}
+use lib.ListN.{length}
+use lib.IntN.{pos, negℤ}
+use Prim.Native.String.{String}
+use Rattle.quantities.specs.declared.point.Point.{Point}
+use Rattle.tree.specs.Net.{Net}
+use Rattle.tree.specs.Marked as tree
+use Rattle.formats.specs.Bytes.{bytes}
+use Rattle.formats.specs.NetText.{InFormat}
+use Rattle.formats.specs.Reading.{value, refused}
+use Rattle.formats.specs.declared.refusal.Text.the-variants.{InNet}
+use Rattle.formats.specs.declared.refusal.Refusal.the-variants.{OutOfRange, Unreachable, WrongChildren, NotReached, OtherSlack, OtherWire, FarPin}
+use Rattle.operations.specs.Answers.{planOf, planListing, judgeOf}
+
+-- A, and A with `need=1`
+abbrev pub textA : List ℕ
+textA = bytes "root=0,0\nbranch=20\nwire=2\nneed=0\nsinks=3\nsink=10,0,100\nsink=4,6,60\nsink=10,10,70\n"
+
+abbrev pub textA1 : List ℕ
+textA1 = bytes "root=0,0\nbranch=20\nwire=2\nneed=1\nsinks=3\nsink=10,0,100\nsink=4,6,60\nsink=10,10,70\n"
+
+-- "prints exactly, a line each"
+abbrev pub listingA : List ℕ
+listingA = bytes "slack=0\nwire=32\nsinks=3\nleaf=1,5\nleaf=2,5\nleaf=3,4\nnode=4,0,4,0\nnode=5,4,4,0\n"
+
+-- 02, request 1: the edge above a branch point is the nearest, and the nearer of two sinks
+abbrev pub textRootNearest : List ℕ
+textRootNearest = bytes "root=0,0\nbranch=20\nwire=2\nneed=-40\nsinks=3\nsink=10,0,20\nsink=10,0,20\nsink=1,0,2\n"
+
+abbrev pub listingRootNearest : List ℕ
+listingRootNearest = bytes "slack=-40\nwire=10\nsinks=3\nleaf=1,4\nleaf=2,4\nleaf=3,5\nnode=4,5,10,0\nnode=5,0,1,0\n"
+
+abbrev pub textNearerSink : List ℕ
+textNearerSink = bytes "root=0,0\nbranch=20\nwire=2\nneed=-40\nsinks=3\nsink=10,0,20\nsink=0,10,20\nsink=1,10,22\n"
+
+abbrev pub listingNearerSink : List ℕ
+listingNearerSink = bytes "slack=-40\nwire=21\nsinks=3\nleaf=1,4\nleaf=2,5\nleaf=3,5\nnode=4,0,0,0\nnode=5,4,0,10\n"
+
+-- 02, request 2: a net of one sink, by how its root and the sink's position are spelt, and the net that it is where both are in range
+abbrev pub pinText : String → String → List ℕ
+pinText root pin = bytes "root=" ++ (bytes root ++ (bytes "\nbranch=20\nwire=2\nneed=-2000000000000\nsinks=1\nsink=" ++ (bytes pin ++ bytes ",100\n")))
+
+abbrev pub pinNet : Point → Point → Net
+pinNet root pin = record { root = root; branch = 20; wire = record { 0 = 2 }; need = negℤ (pos 2_000_000_000_000); sinks = record { point = pin; required = pos 100 } ∷ [] }
+
+pub record Marked : Type 0 where
+  pub measures : tree.Marked
+  pub A-format : InFormat textA tree.netA
+  pub A-listing : planListing tree.netA ≡ listingA
+  -- "slack=0", "wire=32", and the listing's bytes, into any output that has room for them
+  pub A-plan : (room : ℕ) → length listingA ≤ room → planOf textA room ≡ value (record { slack = pos 0; wire = 32; bytes = listingA })
+  -- "The judge program, given A in net.txt and this in tree.txt, prints `slack=0`, `wire=32`, `best=0`."
+  pub A-judge : judgeOf textA listingA ≡ value (record { slack = pos 0; wire = 32; best = pos 0 })
+  -- "A with `need=1`: 5,1,4", whatever the output's length
+  pub A-need : (room : ℕ) → planOf textA1 room ≡ refused Unreachable
+  -- "A's listing with `slack=1`: 11,2,1. With `wire=31`: 12,2,2."
+  pub A-slack : judgeOf textA (bytes "slack=1\nwire=32\nsinks=3\nleaf=1,5\nleaf=2,5\nleaf=3,4\nnode=4,0,4,0\nnode=5,4,4,0\n") ≡ refused OtherSlack
+  pub A-wire : judgeOf textA (bytes "slack=0\nwire=31\nsinks=3\nleaf=1,5\nleaf=2,5\nleaf=3,4\nnode=4,0,4,0\nnode=5,4,4,0\n") ≡ refused OtherWire
+  -- "n = 3, parents of 1 to 5 are 0, 4, 5, 5, 4: 10,2,5."
+  pub ring : judgeOf textA (bytes "slack=0\nwire=32\nsinks=3\nleaf=1,0\nleaf=2,4\nleaf=3,5\nnode=4,5,4,0\nnode=5,4,4,0\n") ≡ refused (NotReached 5)
+  -- "n = 3, parents 4, 4, 4, 0, 4: 9,2,7."
+  pub four-children : judgeOf textA (bytes "slack=0\nwire=32\nsinks=3\nleaf=1,4\nleaf=2,4\nleaf=3,4\nnode=4,0,4,0\nnode=5,4,4,0\n") ≡ refused (WrongChildren 7)
+  -- the two nets of request 1, their whole listings, and that judge reads them back
+  pub root-format : InFormat textRootNearest tree.rootNearest
+  pub root-listing : planListing tree.rootNearest ≡ listingRootNearest
+  pub root-judge : judgeOf textRootNearest listingRootNearest ≡ value (record { slack = negℤ (pos 40); wire = 10; best = negℤ (pos 40) })
+  pub sink-format : InFormat textNearerSink tree.nearerSink
+  pub sink-listing : planListing tree.nearerSink ≡ listingNearerSink
+  pub sink-judge : judgeOf textNearerSink listingNearerSink ≡ value (record { slack = negℤ (pos 40); wire = 21; best = negℤ (pos 40) })
+  -- "the case of X 100000 in 01 passes only with a root near enough": else plan and judge give 13,1,6, whatever the output or the listing is
+  pub across-near : InFormat (pinText "60000,0" "100000,0") (pinNet (tree.point (pos 60_000) (pos 0)) (tree.point (pos 100_000) (pos 0)))
+  pub across-plan : (room : ℕ) → planOf (pinText "0,0" "100000,0") room ≡ refused (FarPin 6)
+  pub across-judge : (listing : List ℕ) → judgeOf (pinText "0,0" "100000,0") listing ≡ refused (FarPin 6)
+  -- "right after 3 on that line": 100001 is out of range, however far off
+  pub across-range : (room : ℕ) → planOf (pinText "0,0" "100001,0") room ≡ refused (OutOfRange InNet 6)
+  -- "more than 40,000 micrometres from the root"
+  pub at-limit : InFormat (pinText "0,0" "40000,0") (pinNet (tree.point (pos 0) (pos 0)) (tree.point (pos 40_000) (pos 0)))
+  pub past-limit : (room : ℕ) → planOf (pinText "0,0" "40001,0") room ≡ refused (FarPin 6)
+  -- the same where |dx| and |dy| both count
+  pub both-at-limit : InFormat (pinText "-10000,5000" "5000,-20000") (pinNet (tree.point (negℤ (pos 10_000)) (pos 5_000)) (tree.point (pos 5_000) (negℤ (pos 20_000))))
+  pub both-past-limit : (room : ℕ) → planOf (pinText "-10000,5000" "5000,-20001") room ≡ refused (FarPin 6)

@@ -1,0 +1,113 @@
+-- The planned tree's figures are in the listing's ranges, since settled points stay in the box of the root and the sinks. Assumes nothing.
+use Prim.Native.Nat.{ℕ, zero, suc, _+_, _*_, _-_, _≤_, _<_, zero-le}
+use mathlib.Core.Path.{_≡_, sym, ap, _∙_, subst}
+use mathlib.Core.Logic.{_≢_}
+use mathlib.Core.List.{List, [], _∷_}
+use native.Mathlib.Omega.{arith}
+use native.Mathlib.Decide.{decLe}
+use lib.ListN.{length, getD}
+use lib.IntN.{ℤ, pos, negℤ, _-ℤ_}
+use Rattle.quantities.specs.declared.point.Point.{Point}
+use Rattle.quantities.specs.Inner.Linear.{whole}
+use Rattle.quantities.specs.Ranges.{Within, PointWithin}
+use Rattle.quantities.specs.Inner.Box.{InBox}
+use Rattle.quantities.proofs.Laws.Distance.{distance-within}
+use Rattle.quantities.proofs.Laws.Median.{median-in-box}
+use Rattle.tree.specs.Lists.{sumOver, count, range}
+use Rattle.tree.specs.Net.{Net, size, sinkAt, ownSlack}
+use Rattle.tree.specs.Tree.{Tree, parentOf, Legal, place}
+use Rattle.tree.specs.Measures.{edgeLength, slack, worstSlack, wireLength}
+use Rattle.tree.specs.Planning.{TieRule, planParents}
+use Rattle.tree.specs.Settling.{children, settled, settledTree, planBy}
+use Rattle.tree.specs.Limits.{positionLimit, needLimit, wireLimit, InRange}
+use Rattle.tree.proofs.Laws.Lists.Sums.{delta-self}
+use Rattle.tree.proofs.Laws.Trees.Walks.{hops-le}
+use Rattle.tree.proofs.Laws.Kraft.GapSums.{depthIn}
+use Rattle.tree.proofs.Laws.Lists.Tables.{range-length}
+use Rattle.tree.proofs.Laws.Planning.KeepsBest.{Least}
+use Rattle.tree.proofs.Laws.Measures.InReach.{kept-within}
+use Rattle.tree.proofs.Laws.Trees.Defects.{range-in}
+use Rattle.tree.proofs.Laws.Settling.SlackKept.{settled-is, settled-sink, settled-branch, at-settled}
+use Rattle.tree.proofs.Laws.Planning.AnyTieRule.{worst-is-least, sinks-in, plan-legal}
+
+-- ---- every settled point lies in the box of the root and the sinks, in any tree
+
+module _ (N : Net) (P : List ℕ) (low high : Point) (stands : (v : ℕ) → v ≤ size N → InBox low high (sinkAt N v)) where
+  pub settled-in-box : (k v : ℕ) → InBox low high (settled N P k v)
+  settled-in-box zero v = stands 0 zero-le
+  settled-in-box (suc k) v = go (decLe v (size N)) (λ c. settled-in-box k c)
+    where
+      go : Dec (v ≤ size N) → ((c : ℕ) → InBox low high (settled N P k c)) → InBox low high (settled N P (suc k) v)
+      go (yes h) ih = subst (InBox low high) (sym (settled-sink N P k v h)) (stands v h)
+      go (no h) ih =
+          subst (InBox low high) (sym (settled-branch N P k v (omega arith)))
+          (median-in-box low high (N .root) _ _ (stands 0 zero-le) (ih (getD (children P v) 0 0)) (ih (getD (children P v) 1 0)))
+
+  pub place-in-box : Legal (size N) P → (v : ℕ) → v < 2 * size N → InBox low high (place N (settledTree N P) v)
+  place-in-box L zero h = stands 0 zero-le
+  place-in-box L (suc v) h = subst (InBox low high) (sym (at-settled N P L (suc v) (omega arith) h)) (settled-in-box (2 * size N) (suc v))
+
+-- ---- the range of the positions as a box
+
+corner : ℤ → Point
+corner z = record { x = z; y = z }
+
+within-box : (k : ℕ) (p : Point) → PointWithin k p → InBox (corner (negℤ (pos k))) (corner (pos k)) p
+unfolding corner
+within-box k p h = record { x = h .0; y = h .1 }
+
+box-within : (k : ℕ) (p : Point) → InBox (corner (negℤ (pos k))) (corner (pos k)) p → PointWithin k p
+unfolding corner
+box-within k p h = (h .x, h .y)
+
+stands-within : (N : Net) → InRange N → (v : ℕ) → v ≤ size N → PointWithin positionLimit (sinkAt N v)
+stands-within N R zero h = R .root
+stands-within N R (suc v) h = R .points (suc v) (omega arith) h
+
+settled-within : (N : Net) → InRange N → (P : List ℕ) → Legal (size N) P → (v : ℕ) → v < 2 * size N → PointWithin positionLimit (place N (settledTree N P) v)
+settled-within N R P L v h =
+    box-within positionLimit _ (place-in-box N P _ _ (λ u l. within-box positionLimit _ (stands-within N R u l)) L v h)
+
+sum-bound : (l : List ℕ) (f : ℕ → ℕ) (m : ℕ) → ((x : ℕ) → count x l ≢ 0 → f x ≤ m) → sumOver l f ≤ length l * m
+sum-bound [] f m h = zero-le
+sum-bound (x ∷ l) f m h = omega (arith, h x (omega (arith, delta-self x)), sum-bound l f m (λ y q. h y (omega arith)))
+
+module _ (tie : TieRule) (N : Net) (R : InRange N) where
+  legal : Legal (size N) (planParents tie N)
+  unfolding planBy
+  legal = plan-legal N (R .branch .0) (R .sinks .0) tie .shape
+
+  pub plan-within : (v : ℕ) → v < 2 * size N → PointWithin positionLimit (place N (planBy tie N) v)
+  unfolding planBy
+  plan-within v h = settled-within N R (planParents tie N) legal v h
+
+  -- "L 0 to 1,000,000,000"
+  pub wire-range : wireLength N (planBy tie N) ≤ wireLimit
+  unfolding wireLength planBy
+  wire-range =
+      let Q : Tree = settledTree N (planParents tie N) in
+      let b : sumOver (range 1 (2 * size N - 1)) (edgeLength N Q) ≤ length (range 1 (2 * size N - 1)) * (4 * positionLimit) =
+      sum-bound (range 1 (2 * size N - 1)) (edgeLength N Q) (4 * positionLimit) each in
+      omega (arith, R .sinks, ap (λ n. n * (4 * positionLimit)) (range-length 1 (2 * size N - 1)))
+    where
+      below : (v : ℕ) → v < 2 * size N → parentOf (planParents tie N) v < 2 * size N
+      below zero l = l
+      below (suc i) l = legal .inside i (omega (arith, legal .size))
+
+      each : (x : ℕ) → count x (range 1 (2 * size N - 1)) ≢ 0 → edgeLength N (settledTree N (planParents tie N)) x ≤ 4 * positionLimit
+      each x m =
+          let h : (1 ≤ x) × (x < 1 + (2 * size N - 1)) = range-in 1 (2 * size N - 1) x (omega arith) m in
+          distance-within positionLimit _ _ (plan-within (parentOf (planParents tie N) x) (below x (omega (arith, R .sinks)))) (plan-within x (omega (arith, R .sinks)))
+
+  -- "The lowest t is always reachable", and W is in its range
+  pub slack-range : Within needLimit (worstSlack N (planBy tie N))
+  unfolding planBy
+  slack-range =
+      let l : Least (range 1 (size N)) (slack N (planBy tie N)) (worstSlack N (planBy tie N)) = worst-is-least N (planBy tie N) (R .sinks .0) in
+      let s : ℕ = l .at in
+      let h : (1 ≤ s) × (s ≤ size N) = sinks-in N (R .branch .0) (R .sinks .0) s (l .in-list) in
+      let d : ℕ = depthIn (length (planParents tie N)) (parentOf (planParents tie N)) s in
+      let e : worstSlack N (planBy tie N) ≡ ownSlack N s -ℤ pos (d * N .branch) = sym (l .is) ∙ settled-is N (planParents tie N) legal s (h .0) (h .1) in
+      let deep = hops-le (parentOf (planParents tie N)) (length (planParents tie N)) (parentOf (planParents tie N) s) in
+      let w = kept-within N R s d (h .0) (h .1) (omega (arith, legal .size, R .sinks)) in
+      omega (arith, whole)
