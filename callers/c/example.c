@@ -1,9 +1,9 @@
-/* Plans a net of three sinks, judges the plan, then asks for too much and
- * hands over a pin too far from the root.
+/* Plans a net of three sinks, judges the plan, then asks for too much, hands
+ * over a pin too far from the root, and texts and an output of no bytes.
  *
  * Build and run, from the repository's root:
- *   cc -std=c99 -Wall -Wextra -o target/example callers/c/example.c \
- *      target/staticlib/librepeater_tree.a && target/example
+ *   cc -o target/example callers/c/example.c target/staticlib/librepeater_tree.a \
+ *      && target/example
  */
 #include "repeater_tree.h"
 
@@ -64,30 +64,67 @@ static int judge(const uint8_t *listing, size_t length) {
     return 0;
 }
 
-static int refused(const char *what, const char *net, uint8_t *out,
-                   size_t length, uint8_t number, size_t line) {
-    uint8_t text;
-    size_t at, bytes;
+struct refusal {
+    uint8_t number, text;
+    size_t line;
+};
+
+static int refused(const char *what, struct refusal told, struct refusal expected) {
+    printf("%s: refused=%u,%u,%zu\n", what, told.number, told.text, told.line);
+    if (told.number != expected.number || told.text != expected.text
+        || told.line != expected.line)
+        return unexpected("another refusal");
+    return 0;
+}
+
+static int plan_refused(const char *what, const char *net, size_t net_length,
+                        uint8_t *out, size_t length, struct refusal expected) {
+    struct refusal told;
     int64_t slack;
     uint64_t wire;
-    uint8_t told = repeater_tree_plan(bytes_of(net), strlen(net), out, length,
-                                      &text, &at, &slack, &wire, &bytes);
-    printf("%s: refused=%u,%u,%zu\n", what, (unsigned)told, (unsigned)text, at);
-    if (told != number || text != 1 || at != line)
-        return unexpected("another refusal");
+    size_t bytes;
+    told.number = repeater_tree_plan(bytes_of(net), net_length, out, length,
+                                     &told.text, &told.line, &slack, &wire, &bytes);
     if (slack != 0 || wire != 0 || bytes != 0)
         return unexpected("figures beside a refusal");
-    return 0;
+    return refused(what, told, expected);
+}
+
+static int judge_refused(const char *what, const char *net, size_t net_length,
+                         const uint8_t *listing, size_t length, struct refusal expected) {
+    struct refusal told;
+    int64_t slack, best;
+    uint64_t wire;
+    told.number = repeater_tree_judge(bytes_of(net), net_length, listing, length,
+                                      &told.text, &told.line, &slack, &wire, &best);
+    if (slack != 0 || wire != 0 || best != 0)
+        return unexpected("figures beside a refusal");
+    return refused(what, told, expected);
+}
+
+/* Where a length is 0 the pointer may be NULL. */
+static int nothing_lent(void) {
+    const struct refusal no_net = {REPEATER_TREE_MALFORMED, 1, 1};
+    const struct refusal no_listing = {REPEATER_TREE_MALFORMED, 2, 1};
+    const struct refusal no_output = {REPEATER_TREE_SHORT_OUTPUT, 0, 0};
+    const char *net = NET("0");
+    return plan_refused("no net, no output", NULL, 0, NULL, 0, no_net)
+        || plan_refused("no output", net, strlen(net), NULL, 0, no_output)
+        || judge_refused("no net, no listing", NULL, 0, NULL, 0, no_net)
+        || judge_refused("no listing", net, strlen(net), NULL, 0, no_listing);
 }
 
 int main(void) {
     static uint8_t out[REPEATER_TREE_LISTING_LENGTH];
+    const struct refusal unreachable = {REPEATER_TREE_UNREACHABLE, 1, 4};
+    const struct refusal far_pin = {REPEATER_TREE_FAR_PIN, 1, 8};
+    const char *too_much = NET("1"), *far = NET_WITH("0", "10,40000,70");
     size_t bytes = 0;
-    if (plan(out, sizeof out, &bytes) != 0) return 1;
-    if (judge(out, bytes) != 0) return 1;
-    if (refused("need=1", NET("1"), out, sizeof out,
-                REPEATER_TREE_UNREACHABLE, 4) != 0)
-        return 1;
-    return refused("a far pin", NET_WITH("0", "10,40000,70"), out, sizeof out,
-                   REPEATER_TREE_FAR_PIN, 8);
+    printf("version %d.%d.%d\n", REPEATER_TREE_VERSION_MAJOR,
+           REPEATER_TREE_VERSION_MINOR, REPEATER_TREE_VERSION_PATCH);
+    return plan(out, sizeof out, &bytes)
+        || judge(out, bytes)
+        || plan_refused("need=1", too_much, strlen(too_much), out, sizeof out, unreachable)
+        || plan_refused("a far pin", far, strlen(far), out, sizeof out, far_pin)
+        || nothing_lent();
 }

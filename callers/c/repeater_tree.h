@@ -1,16 +1,18 @@
 /* The repeater tree planner: two calls on text.
  *
+ * docs/FORMAT.md has the two texts, their ranges and the rules of the plan.
  * Positions and lengths are in micrometres (um), times in femtoseconds (fs),
  * the wire factor in fs per um. A distance is |dx| + |dy|.
  *
  * What the caller owes:
- *   - each pointer is not null and valid for its length, also where the
- *     length is 0 (any non-null address will do then);
+ *   - the pointer to a text or an output is valid for its length; where the
+ *     length is 0 any pointer will do, NULL too;
  *   - each figure's pointer is valid and aligned for writing its type;
  *   - the output and the figures overlap neither each other nor the inputs
- *     (the two input texts may overlap, they are only read).
- * The calls keep nothing, allocate nothing the caller must free, and may run
- * in several threads at once.
+ *     (the two input texts may overlap, they are only read);
+ *   - the calling thread has REPEATER_TREE_STACK bytes of stack left.
+ * A call keeps nothing and allocates nothing, and calls may run in several
+ * threads at once.
  */
 #ifndef REPEATER_TREE_H
 #define REPEATER_TREE_H
@@ -22,6 +24,12 @@
 extern "C" {
 #endif
 
+/* While MAJOR is 0, another MINOR may change the texts, the answers or the
+ * calls; another PATCH changes none of them. */
+#define REPEATER_TREE_VERSION_MAJOR 0
+#define REPEATER_TREE_VERSION_MINOR 3
+#define REPEATER_TREE_VERSION_PATCH 0
+
 /* The longest texts that are read, in bytes. No listing that a plan writes
  * is longer than the second, so an output of that length is always enough. */
 #define REPEATER_TREE_NET_LENGTH 20480
@@ -29,6 +37,10 @@ extern "C" {
 
 /* The farthest that a sink may stand from the root, |dx| + |dy|, in um. */
 #define REPEATER_TREE_PIN_LIMIT 40000
+
+/* No call takes more of its thread's stack, in bytes. The caller's own frames,
+ * and what the system keeps on a thread's stack, come on top. */
+#define REPEATER_TREE_STACK 81920
 
 /* The refusal's number, the result of both calls. Each says with which text
  * (1 the net, 2 the listing, 0 neither) and line it comes; lines count from 1. */
@@ -83,8 +95,9 @@ enum {
  *   out, out_length   where the listing goes; bytes beyond it keep their values
  *   text              the refusal's text, 0 to 1
  *   line              the refusal's line, 0 to 518
- *   slack             the plan's worst slack in fs, within +-4,000,000,000,000
- *   wire              the plan's wire in um, 0 to 1,000,000,000
+ *   slack             the plan's worst slack in fs, the largest of any legal
+ *                     tree: -1,000,409,000,000 to 1,000,000,000,000
+ *   wire              the plan's wire in um, 0 to 20,480,000
  *   bytes             the listing's length, 0 to 24,576
  *
  * Every figure is written by every call. At a refusal (1 to 6, 13) slack, wire
@@ -101,10 +114,12 @@ uint8_t repeater_tree_plan(const uint8_t *net, size_t net_length,
  *   listing, listing_length   the listing text
  *   text                      the refusal's text, 1 to 2 (0: not refused)
  *   line                      the refusal's line, 0 to 1,027
- *   slack                     the tree's worst slack in fs, within +-4,000,000,000,000
- *   wire                      the tree's wire in um, 0 to 1,000,000,000
+ *   slack                     the tree's worst slack in fs,
+ *                             -3,048,511,000,000 to 1,000,000,000,000
+ *   wire                      the tree's wire in um, 0 to 409,200,000
  *   best                      the largest worst slack of any legal tree over
- *                             this net (its Kraft maximum) in fs
+ *                             this net (its Kraft maximum) in fs,
+ *                             -1,000,409,000,000 to 1,000,000,000,000
  *
  * Every figure is written by every call. At a refusal (1 to 4, 7 to 13) slack,
  * wire and best are 0. The net is refused before the listing is looked at. */
@@ -112,6 +127,35 @@ uint8_t repeater_tree_judge(const uint8_t *net, size_t net_length,
                             const uint8_t *listing, size_t listing_length,
                             uint8_t *text, size_t *line,
                             int64_t *slack, uint64_t *wire, int64_t *best);
+
+/* The archive's functions ask for an address that is not null also where a
+ * length is 0. These lend one, and the two names above mean them from here on,
+ * so that NULL with 0 is fine in every call and through every pointer. */
+static inline uint8_t repeater_tree_plan_lent(
+    const uint8_t *net, size_t net_length,
+    uint8_t *out, size_t out_length,
+    uint8_t *text, size_t *line,
+    int64_t *slack, uint64_t *wire, size_t *bytes) {
+    const uint8_t no_text = 0;
+    uint8_t no_output = 0;
+    return repeater_tree_plan(net_length == 0 ? &no_text : net, net_length,
+                              out_length == 0 ? &no_output : out, out_length,
+                              text, line, slack, wire, bytes);
+}
+
+static inline uint8_t repeater_tree_judge_lent(
+    const uint8_t *net, size_t net_length,
+    const uint8_t *listing, size_t listing_length,
+    uint8_t *text, size_t *line,
+    int64_t *slack, uint64_t *wire, int64_t *best) {
+    const uint8_t no_text = 0;
+    return repeater_tree_judge(net_length == 0 ? &no_text : net, net_length,
+                               listing_length == 0 ? &no_text : listing, listing_length,
+                               text, line, slack, wire, best);
+}
+
+#define repeater_tree_plan repeater_tree_plan_lent
+#define repeater_tree_judge repeater_tree_judge_lent
 
 #ifdef __cplusplus
 }

@@ -1,6 +1,7 @@
 //! Safe calls of the repeater tree planner.
 //!
-//! Positions and lengths are in micrometres, times in femtoseconds.
+//! Positions and lengths are in micrometres, times in femtoseconds;
+//! `docs/FORMAT.md` has the two texts.
 //!
 //! ```
 //! let net = b"root=0,0\nbranch=20\nwire=2\nneed=0\nsinks=1\nsink=3,4,20\n";
@@ -26,26 +27,32 @@ pub const LISTING_LENGTH: usize = 24_576;
 /// micrometres. A net with a farther one is refused by number 13, on the
 /// sink's line: it belongs to the global planner.
 pub const PIN_LIMIT: u64 = 40_000;
+/// No call takes more of its thread's stack, in bytes. The caller's own frames,
+/// and what the system keeps on a thread's stack, come on top.
+pub const STACK: usize = 81_920;
 
 /// A plan's figures. Its listing is the output's first `bytes` bytes.
 #[derive(Clone, Copy, Debug, PartialEq, Eq)]
 pub struct Plan {
-    /// Worst slack, in femtoseconds.
+    /// Worst slack, in femtoseconds: the largest of any legal tree over the
+    /// net, -1,000,409,000,000 to 1,000,000,000,000.
     pub slack: i64,
-    /// Wire, in micrometres.
+    /// Wire, in micrometres, 0 to 20,480,000.
     pub wire: u64,
-    /// Length of the listing.
+    /// Length of the listing, at most [`LISTING_LENGTH`].
     pub bytes: usize,
 }
 
 /// A judged listing's figures.
 #[derive(Clone, Copy, Debug, PartialEq, Eq)]
 pub struct Measures {
-    /// Worst slack of the listed tree, in femtoseconds.
+    /// Worst slack of the listed tree, in femtoseconds, -3,048,511,000,000 to
+    /// 1,000,000,000,000.
     pub slack: i64,
-    /// Wire of the listed tree, in micrometres.
+    /// Wire of the listed tree, in micrometres, 0 to 409,200,000.
     pub wire: u64,
-    /// The largest worst slack of any legal tree over the net.
+    /// The largest worst slack of any legal tree over the net (its Kraft
+    /// maximum), in femtoseconds, -1,000,409,000,000 to 1,000,000,000,000.
     pub best: i64,
 }
 

@@ -12,6 +12,7 @@ pub mod programs;
 pub mod random;
 pub mod session;
 pub mod shapes;
+pub mod signatures;
 pub mod stored;
 pub mod timing;
 pub mod trees;

@@ -70,11 +70,11 @@ pub fn compare(s: &mut Session, programs: &Programs, seed: u64) -> Result<()> {
         let mut r = Random::new(seed.wrapping_add(i));
         let (net, listing) = texts(&mut r, i);
         s.start("program-plan", seed);
-        s.count();
+        s.count().runs += 1;
         let printed = programs.plan(&net)?;
         report(s, &printed, &expected_plan(&net), &[("net", &net)]);
         s.start("program-judge", seed);
-        s.count();
+        s.count().runs += 1;
         let printed = programs.judge(&net, &listing)?;
         let expected = judge_text(plain::judge(&net, &listing));
         report(

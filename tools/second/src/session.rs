@@ -18,11 +18,44 @@ const LAST_NUMBER: u8 = 13;
 /// Gathering takes long on large nets: one case in so many has them.
 const LARGE_GATHERED: u64 = 8;
 
+/// What was compared. Only the first two run the library.
+#[derive(Clone, Copy, Debug, Default)]
+pub struct Counts {
+    pub plans: u64,
+    pub judgements: u64,
+    /// Runs of the programs.
+    pub runs: u64,
+    /// Rival trees that the tool measures itself, against the library's best.
+    pub rivals: u64,
+    /// Nets on which the tool's own gathered numbers are held to their
+    /// definitions.
+    pub gathered: u64,
+}
+
+impl Counts {
+    pub fn calls(&self) -> u64 {
+        self.plans + self.judgements
+    }
+
+    pub fn own(&self) -> u64 {
+        self.rivals + self.gathered
+    }
+
+    fn add(&mut self, other: &Counts) {
+        self.plans += other.plans;
+        self.judgements += other.judgements;
+        self.runs += other.runs;
+        self.rivals += other.rivals;
+        self.gathered += other.gathered;
+    }
+}
+
 #[derive(Default)]
 pub struct Session {
     kind: &'static str,
     seed: u64,
-    pub counts: BTreeMap<&'static str, u64>,
+    /// By kind of case.
+    pub counts: BTreeMap<&'static str, Counts>,
     /// Answers by the refusal's number: of plan, of judge.
     pub numbers: [[u64; LAST_NUMBER as usize + 1]; 2],
     /// Plans in which an edge above a branch point was split.
@@ -55,14 +88,21 @@ impl Session {
         self.seed = seed;
     }
 
-    pub fn total(&self) -> u64 {
-        self.counts.values().sum()
+    pub fn total(&self) -> Counts {
+        let mut total = Counts::default();
+        self.counts.values().for_each(|counts| total.add(counts));
+        total
+    }
+
+    /// The counts of the kind that runs.
+    pub fn count(&mut self) -> &mut Counts {
+        self.counts.entry(self.kind).or_default()
     }
 
     /// Plans with an output of this length, on the library and on each
     /// reference that can.
     pub fn plan(&mut self, net: &[u8], length: usize) -> Planned {
-        self.count();
+        self.count().plans += 1;
         let mut out = fill(length + GUARD);
         let answer = library::plan(net, &mut out[..length]);
         self.numbers[0][answer.number.min(LAST_NUMBER) as usize] += 1;
@@ -101,7 +141,7 @@ impl Session {
 
     /// Each gathered number and each edge's number against its definition.
     pub fn check_gathered(&mut self, net: &Net) {
-        self.count();
+        self.count().gathered += 1;
         match gathered::check(net) {
             Ok(checked) => {
                 self.gathered.vertices += checked.vertices;
@@ -168,7 +208,7 @@ impl Session {
     }
 
     pub fn judge(&mut self, net: &[u8], listing: &[u8]) -> Answer {
-        self.count();
+        self.count().judgements += 1;
         let answer = library::judge(net, listing);
         self.numbers[1][answer.number.min(LAST_NUMBER) as usize] += 1;
         for (who, expected) in [
@@ -189,10 +229,6 @@ impl Session {
             let what = format!("{what}\nlibrary {answer:?}");
             self.disagree(&what, &[("net", net), ("listing", listing)]);
         }
-    }
-
-    pub fn count(&mut self) {
-        *self.counts.entry(self.kind).or_insert(0) += 1;
     }
 
     pub fn disagree(&mut self, what: &str, texts: &[(&str, &[u8])]) {

@@ -1,4 +1,4 @@
-//! Time per call of two rivals on the same inputs, in turn.
+//! Time per call of several rivals on the same inputs, in turn.
 
 use std::time::Instant;
 
@@ -7,58 +7,46 @@ const ROUNDS: usize = 25;
 /// so that few are interrupted and the median passes over those that are.
 const STRETCH: f64 = 100_000.0;
 
-/// Nanoseconds per call.
-#[derive(Clone, Copy, Default)]
-pub struct Pair {
-    pub library: f64,
-    pub plain: f64,
-}
+pub type Rival<'a, T> = &'a mut dyn FnMut(&T);
 
-impl Pair {
-    pub fn ratio(&self) -> f64 {
-        self.library / self.plain
-    }
-}
-
-/// The mean over the inputs of the median time on each. The rivals take turns,
-/// so that a slow moment of the machine hits both.
-pub fn compare<T>(inputs: &[T], mut library: impl FnMut(&T), mut plain: impl FnMut(&T)) -> Pair {
-    let mut sum = Pair::default();
+/// Nanoseconds per call of each rival: the mean over the inputs of the median
+/// time on each. The rivals take turns, so that a slow moment of the machine
+/// hits all of them.
+pub fn compare<T, const N: usize>(inputs: &[T], rivals: &mut [Rival<T>; N]) -> [f64; N] {
+    let mut sums = [0.0; N];
     for input in inputs {
-        let pair = on_one(&mut || library(input), &mut || plain(input));
-        sum.library += pair.library;
-        sum.plain += pair.plain;
+        let times = on_one(input, rivals);
+        for (sum, time) in sums.iter_mut().zip(times) {
+            *sum += time;
+        }
     }
-    let count = inputs.len() as f64;
-    Pair {
-        library: sum.library / count,
-        plain: sum.plain / count,
-    }
+    sums.map(|sum| sum / inputs.len() as f64)
 }
 
-fn on_one(library: &mut impl FnMut(), plain: &mut impl FnMut()) -> Pair {
-    let (library_repeats, plain_repeats) = (repeats(library), repeats(plain));
-    let (mut one, mut two) = (Vec::new(), Vec::new());
+fn on_one<T, const N: usize>(input: &T, rivals: &mut [Rival<T>; N]) -> [f64; N] {
+    let mut repeated = [0; N];
+    for (repeated, rival) in repeated.iter_mut().zip(rivals.iter_mut()) {
+        *repeated = repeats(input, rival);
+    }
+    let mut times: [Vec<f64>; N] = std::array::from_fn(|_| Vec::new());
     for _ in 0..ROUNDS {
-        one.push(per_call(library_repeats, library));
-        two.push(per_call(plain_repeats, plain));
+        for ((times, rival), repeated) in times.iter_mut().zip(rivals.iter_mut()).zip(repeated) {
+            times.push(per_call(repeated, input, rival));
+        }
     }
-    Pair {
-        library: median(one),
-        plain: median(two),
-    }
+    times.map(median)
 }
 
 /// From a second call, since the first is slow.
-fn repeats(work: &mut impl FnMut()) -> usize {
-    work();
-    (STRETCH / per_call(1, work)).clamp(1.0, 1e4) as usize
+fn repeats<T>(input: &T, rival: &mut Rival<T>) -> usize {
+    rival(input);
+    (STRETCH / per_call(1, input, rival)).clamp(1.0, 1e4) as usize
 }
 
-fn per_call(repeats: usize, work: &mut impl FnMut()) -> f64 {
+fn per_call<T>(repeats: usize, input: &T, rival: &mut Rival<T>) -> f64 {
     let start = Instant::now();
     for _ in 0..repeats {
-        work();
+        rival(input);
     }
     (start.elapsed().as_nanos() as f64).max(1.0) / repeats as f64
 }

@@ -29,6 +29,17 @@ pub fn random_parents(r: &mut Random, n: usize) -> Vec<usize> {
     parent
 }
 
+/// Parents of one long path: the branch points hang one on the other, and a
+/// sink on each, two on the last.
+pub fn path_parents(n: usize) -> Vec<usize> {
+    if n == 1 {
+        return vec![0, 0];
+    }
+    let sinks = (1..=n).map(|k| (n + k).min(2 * n - 1));
+    let branch_points = (n..2 * n - 1).map(|above| if above == n { 0 } else { above });
+    [0].into_iter().chain(sinks).chain(branch_points).collect()
+}
+
 /// The tree of these parents over the net, branch points in the range and at
 /// most so far from the root.
 pub fn placed(r: &mut Random, net: &Net, parent: Vec<usize>, reach: i64) -> Tree {

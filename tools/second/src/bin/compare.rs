@@ -66,7 +66,7 @@ fn rounds(s: &mut Session, seed: u64, rounds: u64) {
     let mut seeds = Random::new(seed);
     for round in 0..rounds {
         for kind in ALL {
-            let seed = seeds.next();
+            let seed = seeds.draw();
             if round % kind.every == 0 {
                 s.start(kind.name, seed);
                 (kind.run)(s, &mut Random::new(seed));
@@ -78,6 +78,56 @@ fn rounds(s: &mut Session, seed: u64, rounds: u64) {
 fn run_programs(s: &mut Session, folder: Option<PathBuf>, seed: u64) -> std::io::Result<()> {
     let Some(folder) = folder else { return Ok(()) };
     programs::compare(s, &Programs::of(&folder)?, seed)
+}
+
+fn nothing_ran(s: &Session) -> bool {
+    let total = s.total();
+    total.calls() + total.runs + total.own() == 0
+}
+
+/// The last line says what was compared, each count of its own.
+fn print_counts(s: &Session) {
+    println!(
+        "{:>16} {:>9} {:>9} {:>9} {:>9}",
+        "kind of case", "plans", "judged", "runs", "own"
+    );
+    for (kind, counts) in &s.counts {
+        println!(
+            "{kind:>16} {:>9} {:>9} {:>9} {:>9}",
+            counts.plans,
+            counts.judgements,
+            counts.runs,
+            counts.own()
+        );
+    }
+    for (call, numbers) in ["plan", "judge"].iter().zip(&s.numbers) {
+        let last = numbers.len() - 1;
+        println!("{call} answers by number, 0 to {last}: {numbers:?}");
+    }
+    println!(
+        "plans in which an edge above a branch point was split: {} of {}",
+        s.split_above_branch_point, s.numbers[0][0]
+    );
+    println!(
+        "plans with a pin just at the limit: {}, at an end of the range: {}",
+        s.pin_at_limit, s.pin_at_end
+    );
+    let total = s.total();
+    println!(
+        "measured by the tool itself: {} rival trees against the library's best; on {} nets \
+         gathered numbers as defined, {} of vertices, {} of edges; {} of the plans made by \
+         gathering too",
+        total.rivals, total.gathered, s.gathered.vertices, s.gathered.edges, s.gathered_plans
+    );
+    println!(
+        "compared {} calls of the library ({} plans, {} judgements) and {} runs of the programs; \
+         {} disagreements",
+        total.calls(),
+        total.plans,
+        total.judgements,
+        total.runs,
+        s.disagreements
+    );
 }
 
 fn main() -> ExitCode {
@@ -93,36 +143,13 @@ fn main() -> ExitCode {
             run_programs(&mut s, asked.programs, asked.seed)
         }
     };
-    for (kind, count) in &s.counts {
-        println!("{kind:>16} {count:>9}");
-    }
-    for (call, numbers) in ["plan", "judge"].iter().zip(&s.numbers) {
-        let last = numbers.len() - 1;
-        println!("{call} answers by number, 0 to {last}: {numbers:?}");
-    }
-    println!(
-        "plans in which an edge above a branch point was split: {} of {}",
-        s.split_above_branch_point, s.numbers[0][0]
-    );
-    println!(
-        "plans with a pin just at the limit: {}, at an end of the range: {}",
-        s.pin_at_limit, s.pin_at_end
-    );
-    println!(
-        "plans by gathering: {}; gathered numbers as defined: {} of vertices, {} of edges",
-        s.gathered_plans, s.gathered.vertices, s.gathered.edges
-    );
-    println!(
-        "compared {} cases, {} disagreements",
-        s.total(),
-        s.disagreements
-    );
+    print_counts(&s);
     match ran {
         Err(error) => {
             eprintln!("compare: {error}");
             ExitCode::from(2)
         }
-        Ok(()) if s.total() == 0 || s.disagreements > 0 => ExitCode::from(1),
+        Ok(()) if nothing_ran(&s) || s.disagreements > 0 => ExitCode::from(1),
         Ok(()) => ExitCode::SUCCESS,
     }
 }

@@ -47,7 +47,7 @@ pub fn legal(s: &mut Session, r: &mut Random) {
 }
 
 fn rival(s: &mut Session, net: &Net, text: &[u8], tree: &Tree, best: i64) {
-    s.count();
+    s.count().rivals += 1;
     if worst_slack(net, tree) > best as i128 {
         s.disagree(
             &format!("{tree:?} is better than the library's best {best}"),

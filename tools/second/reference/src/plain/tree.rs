@@ -25,8 +25,7 @@ pub fn top_down(n: usize, parent: &[usize]) -> Result<Vec<usize>, Refusal> {
     };
     let mut count = vec![0usize; 2 * n];
     let mut children = vec![[0usize; 2]; 2 * n];
-    for v in 1..2 * n {
-        let p = parent[v];
+    for (v, &p) in parent.iter().enumerate().skip(1) {
         if count[p] < 2 {
             children[p][count[p]] = v;
         }

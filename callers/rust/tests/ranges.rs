@@ -1,0 +1,82 @@
+//! Each end of the figures' ranges is reached.
+
+use repeater_tree::{judge, plan, Measures, LISTING_LENGTH};
+
+const CORNER: i64 = -100_000;
+const OPPOSITE: i64 = 100_000;
+
+/// Sinks at x,-100000 with the same required arrival; the root stands in that
+/// corner, and branch points and wire cost as much as they may.
+fn net(sinks: usize, x: i64, required: i64) -> Vec<u8> {
+    let sink = format!("sink={x},{CORNER},{required}\n");
+    let head = format!("root={CORNER},{CORNER}\nbranch=1000000\nwire=10000\nneed=-2000000000000\n");
+    format!("{head}sinks={sinks}\n{}", sink.repeat(sinks)).into_bytes()
+}
+
+fn planned(net: &[u8]) -> Measures {
+    let mut out = [0; LISTING_LENGTH];
+    let plan = plan(net, &mut out).unwrap();
+    judge(net, &out[..plan.bytes]).unwrap()
+}
+
+#[test]
+fn the_best_slack() {
+    assert_eq!(
+        planned(&net(1, CORNER, 1_000_000_000_000)).best,
+        1_000_000_000_000
+    );
+    let lowest = planned(&net(512, CORNER + 40_000, -1_000_000_000_000));
+    assert_eq!(lowest.best, -1_000_409_000_000);
+    assert_eq!(lowest.slack, lowest.best);
+}
+
+/// The listing of 512 sinks with these parents, branch points in the opposite
+/// corner where their number of edges from the root is odd, else in the root's.
+fn listing(slack: i64, wire: u64, parents: &[usize]) -> Vec<u8> {
+    let mut text = format!("slack={slack}\nwire={wire}\nsinks=512\n");
+    for (i, parent) in parents.iter().enumerate() {
+        let k = i + 1;
+        if k <= 512 {
+            text += &format!("leaf={k},{parent}\n");
+            continue;
+        }
+        let at = match edges_above(parents, k) % 2 {
+            1 => OPPOSITE,
+            _ => CORNER,
+        };
+        text += &format!("node={k},{parent},{at},{at}\n");
+    }
+    text.into_bytes()
+}
+
+fn edges_above(parents: &[usize], k: usize) -> usize {
+    std::iter::successors(Some(k), |&k| Some(parents[k - 1]).filter(|&p| p > 0)).count()
+}
+
+/// On a path whose 511 branch points stand in the two corners by turns the last
+/// sinks are reached by 512 edges from corner to corner. Half of the sinks hang
+/// on a branch point in their own corner.
+#[test]
+fn the_lowest_slack() {
+    let net = net(512, CORNER, -1_000_000_000_000);
+    let mut parents: Vec<usize> = (513..=1023).collect();
+    parents.push(1023);
+    parents.push(0);
+    parents.extend(513..1023);
+    let wire = 400_000 * (511 + 257);
+    let measures = judge(&net, &listing(-3_048_511_000_000, wire, &parents)).unwrap();
+    assert_eq!((measures.slack, measures.wire), (-3_048_511_000_000, wire));
+}
+
+/// In a tree of nine full levels all sinks end at even numbers of edges, so
+/// that all 1,023 edges run from corner to corner.
+#[test]
+fn the_longest_wire() {
+    let net = net(512, CORNER, 0);
+    let mut parents: Vec<usize> = (0..512).map(|k| 768 + k / 2).collect();
+    parents.push(0);
+    parents.extend((2..512).map(|k| 512 + k / 2));
+    let slack = -10_000 * 400_000 * 10 - 9 * 1_000_000;
+    let measures = judge(&net, &listing(slack, 409_200_000, &parents)).unwrap();
+    assert_eq!(measures.wire, 409_200_000);
+}

@@ -1,0 +1,42 @@
+//! The worked net of docs/FORMAT.md: its texts are what plan and judge give.
+
+use repeater_tree::{judge, plan, LISTING_LENGTH};
+
+const PAGE: &str = include_str!("../../../docs/FORMAT.md");
+
+/// The indented blocks of the worked net's section, each line without the words
+/// beside it.
+fn blocks() -> Vec<String> {
+    let (_, section) = PAGE.split_once("\n## 10. ").expect("the worked net");
+    let mut blocks = vec![String::new()];
+    for line in section.lines() {
+        let text = line.strip_prefix("    ").and_then(|l| l.split(' ').next());
+        let block = blocks.last_mut().expect("one at least");
+        match text {
+            Some(text) => *block += &format!("{text}\n"),
+            None if block.is_empty() => {}
+            None => blocks.push(String::new()),
+        }
+    }
+    blocks
+}
+
+#[test]
+fn the_page_tells_what_is_given() {
+    let blocks = blocks();
+    let [net, listing, measures] = &blocks[..3] else {
+        panic!("a net, its listing and its measures are due")
+    };
+    let mut out = [0; LISTING_LENGTH];
+    let planned = plan(net.as_bytes(), &mut out).unwrap();
+    assert_eq!(&out[..planned.bytes], listing.as_bytes());
+    let judged = judge(net.as_bytes(), listing.as_bytes()).unwrap();
+    let told = format!(
+        "slack={}\nwire={}\nbest={}\n",
+        judged.slack, judged.wire, judged.best
+    );
+    assert_eq!(told, *measures);
+    let more = net.replace("need=-10\n", "need=-9\n");
+    let refusal = plan(more.as_bytes(), &mut out).unwrap_err();
+    assert_eq!((refusal.number, refusal.text, refusal.line), (5, 1, 4));
+}

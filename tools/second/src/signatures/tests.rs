@@ -1,0 +1,224 @@
+//! The sources as they are, then copies with one difference planted.
+
+use super::*;
+
+fn sources() -> Sources {
+    Sources::read(Path::new(concat!(env!("CARGO_MANIFEST_DIR"), "/../.."))).unwrap()
+}
+
+/// The differences once a text of one file is replaced.
+fn planted(file: fn(&mut Sources) -> &mut String, old: &str, new: &str) -> Vec<String> {
+    let mut sources = sources();
+    let text = file(&mut sources);
+    assert!(text.contains(old), "{old} does not stand there");
+    *text = text.replacen(old, new, 1);
+    compare(&sources).differences
+}
+
+fn library(s: &mut Sources) -> &mut String {
+    &mut s.library
+}
+
+fn header(s: &mut Sources) -> &mut String {
+    &mut s.header
+}
+
+fn calls(s: &mut Sources) -> &mut String {
+    &mut s.calls
+}
+
+fn wrapper(s: &mut Sources) -> &mut String {
+    &mut s.wrapper
+}
+
+fn manifest(s: &mut Sources) -> &mut String {
+    &mut s.manifest
+}
+
+/// The file of limits that has the pin limit.
+fn limits(s: &mut Sources) -> &mut String {
+    let all = &mut s.limits;
+    all.iter_mut().find(|l| l.contains("PIN_LIMIT: ")).unwrap()
+}
+
+/// Each planted difference is told, in these words.
+fn told(differences: Vec<String>, words: &str) {
+    let found = differences.iter().any(|d| d.contains(words));
+    assert!(found, "{words} is not in {differences:?}");
+}
+
+#[test]
+fn the_sources_agree() {
+    let report = compare(&sources());
+    assert_eq!(report.differences, [""; 0]);
+    assert_eq!(report.functions, 2);
+    assert!(report.limits >= 4);
+}
+
+#[test]
+fn another_order_is_told() {
+    let swapped = planted(
+        header,
+        "int64_t *slack, uint64_t *wire",
+        "uint64_t *wire, int64_t *slack",
+    );
+    told(
+        swapped,
+        "has `wire: *mut u64` where crates/repeater_tree/src/lib.rt has `slack: *mut i64`",
+    );
+    let swapped = planted(
+        calls,
+        "text: *mut u8,\n        line: *mut usize,",
+        "line: *mut usize,\n        text: *mut u8,",
+    );
+    told(swapped, "has `line: *mut usize` where");
+    let swapped = planted(
+        library,
+        "net: &[u8],\n    listing: &[u8],",
+        "listing: &[u8],\n    net: &[u8],",
+    );
+    told(swapped, "repeater_tree_judge has `net: *const u8` where");
+}
+
+#[test]
+fn another_type_is_told() {
+    told(
+        planted(header, "uint8_t *text", "int64_t *text"),
+        "`text: *mut i64`",
+    );
+    told(
+        planted(header, "size_t net_length", "uint64_t net_length"),
+        "`net_length: u64`",
+    );
+    told(
+        planted(header, "const uint8_t *net", "uint8_t *net"),
+        "`net: *mut u8`",
+    );
+    told(
+        planted(
+            header,
+            "uint8_t repeater_tree_plan(",
+            "size_t repeater_tree_plan(",
+        ),
+        "`-> usize`",
+    );
+    told(
+        planted(calls, "best: *mut i64", "best: *mut u64"),
+        "`best: *mut u64`",
+    );
+    told(
+        planted(calls, "bytes: *mut usize", "bytes: usize"),
+        "`bytes: usize`",
+    );
+    told(
+        planted(library, "out: &mut [u8]", "out: &[u8]"),
+        "`out: *const u8`",
+    );
+    told(
+        planted(library, "wire: &mut u64", "wire: &mut i64"),
+        "`wire: *mut i64`",
+    );
+    told(planted(library, ") -> u8", ") -> usize"), "`-> usize`");
+}
+
+#[test]
+fn another_name_is_told() {
+    told(
+        planted(header, "uint64_t *wire", "uint64_t *length"),
+        "`length: *mut u64`",
+    );
+    told(
+        planted(calls, "fn repeater_tree_judge", "fn repeater_tree_measure"),
+        "repeater_tree_judge is missing",
+    );
+    told(
+        planted(library, "fn repeater_tree_plan", "fn repeater_tree_draw"),
+        "repeater_tree_plan is not in",
+    );
+}
+
+#[test]
+fn a_missing_parameter_is_told() {
+    told(
+        planted(header, ", size_t *bytes", ""),
+        "has `nothing` where",
+    );
+    told(
+        planted(library, "    bytes: &mut usize,\n", ""),
+        "has `bytes: *mut usize` where",
+    );
+}
+
+/// The last declaration of a function in the header is its inline function.
+#[test]
+fn an_inline_function_that_differs_is_told() {
+    let differs = planted(
+        header,
+        "repeater_tree_judge_lent(\n    const uint8_t *net, size_t net_length,",
+        "repeater_tree_judge_lent(\n    const uint8_t *net, uint64_t net_length,",
+    );
+    told(differs, "the inline functions of callers/c/repeater_tree.h");
+    told(
+        planted(
+            header,
+            "#define repeater_tree_plan repeater_tree_plan_lent\n",
+            "",
+        ),
+        "repeater_tree_plan does not mean its inline function",
+    );
+}
+
+#[test]
+fn another_limit_is_told() {
+    let far = "REPEATER_TREE_PIN_LIMIT is 40000, ";
+    told(
+        planted(limits, "40_000", "50_000"),
+        &format!("{far}crates/*/src/limits.rt has 50000"),
+    );
+    told(
+        planted(wrapper, "40_000", "4_000"),
+        &format!("{far}callers/rust/src/lib.rs has 4000"),
+    );
+    told(
+        planted(header, "PIN_LIMIT 40000", "PIN_LIMIT 4000"),
+        "PIN_LIMIT is 4000, ",
+    );
+    told(
+        planted(header, "STACK 1", "STACK 2"),
+        "REPEATER_TREE_STACK is 2",
+    );
+    told(
+        planted(limits, "pub const PIN_LIMIT", "const FAR"),
+        &format!("{far}crates/*/src/limits.rt has no PIN_LIMIT"),
+    );
+    told(
+        planted(wrapper, "pub const NET_LENGTH:", "pub const LONGEST:"),
+        "no REPEATER_TREE_LONGEST",
+    );
+}
+
+/// The same name in two crates with two values.
+#[test]
+fn limits_that_differ_are_told() {
+    let mut sources = sources();
+    sources
+        .limits
+        .push("pub const PIN_LIMIT: u64 = 1;".to_string());
+    let differences = compare(&sources).differences;
+    told(
+        differences,
+        "crates/*/src/limits.rt: PIN_LIMIT is 40000 and 1",
+    );
+}
+
+#[test]
+fn another_version_is_told() {
+    told(
+        planted(header, "VERSION_MAJOR 0", "VERSION_MAJOR 9"),
+        "version 9.",
+    );
+    told(
+        planted(manifest, "version = \"0", "version = \"9"),
+        "Cargo.toml has 9.",
+    );
+}
