@@ -184,8 +184,12 @@ fn another_limit_is_told() {
         "PIN_LIMIT is 4000, ",
     );
     told(
-        planted(header, "STACK 1", "STACK 2"),
-        "REPEATER_TREE_STACK is 2",
+        planted(
+            header,
+            "define REPEATER_TREE_STACK ",
+            "define REPEATER_TREE_STACK 9",
+        ),
+        "REPEATER_TREE_STACK is 9",
     );
     told(
         planted(limits, "pub const PIN_LIMIT", "const FAR"),
