@@ -70,7 +70,8 @@ struct refusal {
 };
 
 static int refused(const char *what, struct refusal told, struct refusal expected) {
-    printf("%s: refused=%u,%u,%zu\n", what, told.number, told.text, told.line);
+    printf("%s: refused=%u,%u,%zu, %s\n", what, told.number, told.text, told.line,
+           repeater_tree_words(told.number, told.line));
     if (told.number != expected.number || told.text != expected.text
         || told.line != expected.line)
         return unexpected("another refusal");

@@ -27,7 +27,7 @@ extern "C" {
 /* While MAJOR is 0, another MINOR may change the texts, the answers or the
  * calls; another PATCH changes none of them. */
 #define REPEATER_TREE_VERSION_MAJOR 0
-#define REPEATER_TREE_VERSION_MINOR 3
+#define REPEATER_TREE_VERSION_MINOR 4
 #define REPEATER_TREE_VERSION_PATCH 0
 
 /* The longest texts that are read, in bytes. No listing that a plan writes
@@ -152,6 +152,41 @@ static inline uint8_t repeater_tree_judge_lent(
     return repeater_tree_judge(net_length == 0 ? &no_text : net, net_length,
                                listing_length == 0 ? &no_text : listing, listing_length,
                                text, line, slack, wire, best);
+}
+
+/* A refusal in plain words, as the programs tell it on standard error. */
+static inline const char *repeater_tree_words(uint8_t number, size_t line) {
+    switch (number) {
+    case REPEATER_TREE_TOO_LONG:
+        return "the text is over its length";
+    case REPEATER_TREE_MALFORMED:
+        return "the line due here is missing, lacks its newline, or is misspelt";
+    case REPEATER_TREE_OUT_OF_RANGE:
+        return "a number is out of range";
+    case REPEATER_TREE_TRAILING:
+        return "bytes follow the last line";
+    case REPEATER_TREE_UNREACHABLE:
+        return "no legal tree has the needed slack";
+    case REPEATER_TREE_SHORT_OUTPUT:
+        return "the output is shorter than the listing";
+    case REPEATER_TREE_OTHER_SINKS:
+        return "the number of sinks is not the net's";
+    case REPEATER_TREE_SINK_PARENT:
+        return "the parent is a sink";
+    case REPEATER_TREE_CHILDREN:
+        return line == 0 ? "the root has not exactly one child"
+                         : "this branch point has not exactly two children";
+    case REPEATER_TREE_UNREACHED:
+        return "this vertex is not reached from the root";
+    case REPEATER_TREE_WRONG_SLACK:
+        return "the stated slack is not the tree's worst slack";
+    case REPEATER_TREE_WRONG_WIRE:
+        return "the stated wire is not the tree's wire";
+    case REPEATER_TREE_FAR_PIN:
+        return "the sink is too far from the root";
+    default:
+        return "unknown refusal";
+    }
 }
 
 #define repeater_tree_plan repeater_tree_plan_lent

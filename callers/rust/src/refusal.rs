@@ -27,7 +27,7 @@ impl Refusal {
             (2, _) => "the line due here is missing, lacks its newline, or is misspelt",
             (3, _) => "a number is out of range",
             (4, _) => "bytes follow the last line",
-            (5, _) => "no legal tree has the worst slack that is needed",
+            (5, _) => "no legal tree has the needed slack",
             (6, _) => "the output is shorter than the listing",
             (7, _) => "the number of sinks is not the net's",
             (8, _) => "the parent is a sink",
@@ -36,7 +36,7 @@ impl Refusal {
             (10, _) => "this vertex is not reached from the root",
             (11, _) => "the stated slack is not the tree's worst slack",
             (12, _) => "the stated wire is not the tree's wire",
-            (13, _) => "the sink is more than 40,000 micrometres from the root",
+            (13, _) => "the sink is too far from the root",
             _ => "unknown refusal",
         }
     }

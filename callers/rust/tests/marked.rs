@@ -51,7 +51,7 @@ fn refuses_in_plain_words() {
     );
     assert_eq!(
         refusal.to_string(),
-        "net line 4: no legal tree has the worst slack that is needed (refusal 5)"
+        "net line 4: no legal tree has the needed slack (refusal 5)"
     );
     let refusal = plan(&net("0"), &mut [0; 70]).unwrap_err();
     assert_eq!(
@@ -77,7 +77,7 @@ fn refuses_far_pins() {
     let refusal = plan(&pin_at(PIN_LIMIT + 1), &mut out).unwrap_err();
     assert_eq!(
         refusal.to_string(),
-        "net line 6: the sink is more than 40,000 micrometres from the root (refusal 13)"
+        "net line 6: the sink is too far from the root (refusal 13)"
     );
     assert_eq!(out, [7; 200]);
     assert_eq!(judge(&pin_at(PIN_LIMIT + 1), b"").unwrap_err(), refusal);

@@ -10,5 +10,5 @@ mod read_number;
 pub mod reader;
 pub mod refusal;
 mod scan;
-mod write;
+pub mod write;
 pub mod write_listing;

@@ -1,7 +1,7 @@
 // A number while it is read: "A number is read digit by digit, and no digit may push it past its type."
 ghost use mathlib.Core.Path.{_≡_};
 ghost use Prim.Native.Nat.{_+_, _*_, _-_, _≤_, _<_};
-ghost use Rattle.formats.specs.Decimal.{isDigit, signed};
+ghost use Rattle.formats.specs.Reading.Numbers.{isDigit, signed};
 ghost use Rattle.formats.specs.Inner.Scanning.{heldBy, magnitudeCap};
 
 // Every number of this magnitude or more is held as this one.

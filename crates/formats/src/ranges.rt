@@ -1,7 +1,8 @@
 // The ranges of numbers, as they are read. A number past every range is held at the cap, which is past every range too.
 ghost use mathlib.Core.Path.{_≡_};
 ghost use Prim.Native.Nat.{_<_};
-ghost use Rattle.formats.specs.Reading.{around, upTo, fromZero, inside};
+ghost use Rattle.formats.specs.Ranges.{around, upTo, fromZero};
+ghost use Rattle.formats.specs.Reading.Lines.{inside};
 ghost use Rattle.formats.specs.Inner.Ranging.{Tested, Narrow};
 ghost use Rattle.formats.specs.Inner.Scanning.{magnitudeCap};
 use crate::number::MAGNITUDE_CAP;

@@ -4,7 +4,7 @@ ghost use mathlib.Core.Path.{_≡_};
 ghost use Prim.Native.Nat.{_+_, _^_, _≤_, _<_};
 ghost use lib.Dec.{ltb};
 ghost use lib.ListN.{length, drop};
-ghost use Rattle.formats.specs.Line.{lineIn};
+ghost use Rattle.formats.specs.Reading.Rows.{lineIn};
 ghost use Rattle.formats.specs.Inner.Scanning.{takenAt};
 use crate::scan::Line;
 use crate::scan::Numbers;

@@ -2,8 +2,8 @@
 ghost use mathlib.Core.Path.{_≡_};
 ghost use Prim.Native.Nat.{_+_, _≤_, _<_};
 ghost use lib.ListN.{length, drop};
-ghost use Rattle.formats.specs.Decimal.{natural, field};
-ghost use Rattle.formats.specs.Line.{numberThen, rowIn, begins, lineIn};
+ghost use Rattle.formats.specs.Reading.Numbers.{natural, field};
+ghost use Rattle.formats.specs.Reading.Rows.{numberThen, rowIn, begins, lineIn};
 ghost use Rattle.formats.specs.Inner.Scanning.{runAt, scannedAt, lineAt};
 use crate::bytes::COMMA;
 use crate::bytes::END;

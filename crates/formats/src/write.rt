@@ -32,7 +32,7 @@ pub fn put_bytes(out: &mut [u8], at: usize, s: &[u8]) -> usize
 }
 
 // The digits of `n`.
-fn put_natural(out: &mut [u8], at: usize, n: u64) -> usize
+pub fn put_natural(out: &mut [u8], at: usize, n: u64) -> usize
     requires { ⌜ at + length (showNat n) ≤ length (now out) ⌝ }
     ensures { λ r. ⌜ Puts (now (out .entry)) at (showNat n) r (now (out .exit)) ⌝ }
 {

@@ -1,4 +1,4 @@
-// The marked nets and lines that are checked by running plan: number, text and line of what it returns for each, and its bytes; of request 1's nets the listing, of one of request 2's what judge returns.
+// The marked nets and lines that are checked by running plan and judge: number, text and line of what each returns, and plan's bytes; of request 1's nets the listing.
 use formats::limits::LISTING_LENGTH_LIMIT;
 use formats::limits::NET_LENGTH_LIMIT;
 use formats::refusal::Refusal;
@@ -25,18 +25,33 @@ fn show_refusal(refusal: Refusal) {
     show_figures(told.number, told.text, told.line, 0);
 }
 
-fn show_plan(net: &[u8]) {
-    let mut out = [0u8; LISTING_LENGTH_LIMIT];
-    match plan(net, &mut out) {
-        PlanAnswer::Planned { slack, wire, bytes } => show_figures(0, 0, 0, bytes),
-        PlanAnswer::PlanRefused { refusal } => show_refusal(refusal),
-    }
-}
-
 fn show_judgement(net: &[u8], listing: &[u8]) {
     match judge(net, listing) {
         JudgeAnswer::Judged { slack, wire, best } => show_figures(0, 0, 0, 0),
         JudgeAnswer::JudgeRefused { refusal } => show_refusal(refusal),
+    }
+}
+
+// What judge returns for the listing in the first bytes of `out`.
+fn judge_written(net: &[u8], out: &[u8], bytes: usize) {
+    if out.len() < bytes {
+        return;
+    }
+    show_judgement(net, &out[..bytes]);
+}
+
+// What plan returns, then what judge returns: over what plan wrote, or over no listing where the net is refused.
+fn show(net: &[u8]) {
+    let mut out = [0u8; LISTING_LENGTH_LIMIT];
+    match plan(net, &mut out) {
+        PlanAnswer::Planned { slack, wire, bytes } => {
+            show_figures(0, 0, 0, bytes);
+            judge_written(net, &out, bytes);
+        }
+        PlanAnswer::PlanRefused { refusal } => {
+            show_refusal(refusal);
+            show_judgement(net, b"no listing");
+        }
     }
 }
 
@@ -67,55 +82,63 @@ fn show_512_sinks() {
     let mut net = [0u8; NET_LENGTH_LIMIT + 1];
     let n = io::read_full(fd, &mut net);
     libc::close(fd);
-    show_plan(&net[..n]);
+    show(&net[..n]);
 }
 
-fn main() {
+// Nets of 01 that are refused as they are read, and A.
+fn show_lines() {
     // Empty net: 2,1,1.
-    show_plan(b"");
+    show(b"");
     // `branch=0`: 3,1,2.
-    show_plan(
+    show(
         b"root=0,0\nbranch=0\nwire=2\nneed=0\nsinks=3\nsink=10,0,100\nsink=4,6,60\nsink=10,10,70\n",
     );
     // `need=-0`: 2,1,4.
-    show_plan(
+    show(
         b"root=0,0\nbranch=20\nwire=2\nneed=-0\nsinks=3\nsink=10,0,100\nsink=4,6,60\nsink=10,10,70\n",
     );
-    // A, and A with `need=1`: 5,1,4.
-    show_plan(
+    // A, and A with `need=1`: 5,1,4; judge reads the net and refuses the listing.
+    show(
         b"root=0,0\nbranch=20\nwire=2\nneed=0\nsinks=3\nsink=10,0,100\nsink=4,6,60\nsink=10,10,70\n",
     );
-    show_plan(
+    show(
         b"root=0,0\nbranch=20\nwire=2\nneed=1\nsinks=3\nsink=10,0,100\nsink=4,6,60\nsink=10,10,70\n",
     );
     // `sinks=513`: 3,1,5.
-    show_plan(
+    show(
         b"root=0,0\nbranch=20\nwire=2\nneed=0\nsinks=513\nsink=10,0,100\nsink=4,6,60\nsink=10,10,70\n",
     );
-    // X 100000 passes with a root near enough, else 13 (request 2 of 02), from judge too; 100001: 3.
-    show_plan(
-        b"root=60000,0\nbranch=20\nwire=2\nneed=-2000000000000\nsinks=1\nsink=100000,0,100\n",
-    );
-    show_plan(b"root=0,0\nbranch=20\nwire=2\nneed=-2000000000000\nsinks=1\nsink=100000,0,100\n");
-    show_judgement(
-        b"root=0,0\nbranch=20\nwire=2\nneed=-2000000000000\nsinks=1\nsink=100000,0,100\n",
-        b"no listing",
-    );
-    show_plan(b"root=0,0\nbranch=20\nwire=2\nneed=-2000000000000\nsinks=1\nsink=100001,0,100\n");
+    show_512_sinks();
+}
+
+// Positions at their limit and beyond, with the pin limit of 02's request 2.
+fn show_positions() {
+    // X 100000 passes with a root near enough, else 13.
+    show(b"root=60000,0\nbranch=20\nwire=2\nneed=-2000000000000\nsinks=1\nsink=100000,0,100\n");
+    show(b"root=0,0\nbranch=20\nwire=2\nneed=-2000000000000\nsinks=1\nsink=100000,0,100\n");
+    // 100001: 3, in X and Y of the root and of a sink.
+    show(b"root=100001,0\nbranch=20\nwire=2\nneed=-2000000000000\nsinks=1\nsink=100000,0,100\n");
+    show(b"root=0,-100001\nbranch=20\nwire=2\nneed=-2000000000000\nsinks=1\nsink=0,-100000,100\n");
+    show(b"root=0,0\nbranch=20\nwire=2\nneed=-2000000000000\nsinks=1\nsink=100001,0,100\n");
+    show(b"root=0,100000\nbranch=20\nwire=2\nneed=-2000000000000\nsinks=1\nsink=0,100001,100\n");
     // 40,000 from the root passes, 40,001: 13; by X alone, then by X and Y.
-    show_plan(b"root=0,0\nbranch=20\nwire=2\nneed=-2000000000000\nsinks=1\nsink=40000,0,100\n");
-    show_plan(b"root=0,0\nbranch=20\nwire=2\nneed=-2000000000000\nsinks=1\nsink=40001,0,100\n");
-    show_plan(
+    show(b"root=0,0\nbranch=20\nwire=2\nneed=-2000000000000\nsinks=1\nsink=40000,0,100\n");
+    show(b"root=0,0\nbranch=20\nwire=2\nneed=-2000000000000\nsinks=1\nsink=40001,0,100\n");
+    show(
         b"root=-10000,5000\nbranch=20\nwire=2\nneed=-2000000000000\nsinks=1\nsink=5000,-20000,100\n",
     );
-    show_plan(
+    show(
         b"root=-10000,5000\nbranch=20\nwire=2\nneed=-2000000000000\nsinks=1\nsink=5000,-20001,100\n",
     );
     // A far pin, then a line that is misspelt: the first line that is refused.
-    show_plan(
+    show(
         b"root=0,0\nbranch=20\nwire=2\nneed=-2000000000000\nsinks=3\nsink=10,0,100\nsink=0,-40001,60\nsink=x\n",
     );
-    show_512_sinks();
+}
+
+fn main() {
+    show_lines();
+    show_positions();
     // Request 1 of 02: the edge above a branch point is the nearest; sink 2 is nearer than sink 1.
     show_listing(
         b"root=0,0\nbranch=20\nwire=2\nneed=-40\nsinks=3\nsink=10,0,20\nsink=10,0,20\nsink=1,0,2\n",

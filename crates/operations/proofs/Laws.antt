@@ -3,6 +3,8 @@ pub mod Answers
 pub mod PlanListing
 pub mod Planning
 pub mod Judging
+pub mod Refusing
+pub mod Needless
 pub mod Demands
 pub mod FarPins
 pub mod Marked

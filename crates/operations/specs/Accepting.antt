@@ -8,9 +8,10 @@ use lib.Signed.{leZ}
 use Rattle.tree.specs.Net.{Net, size}
 use Rattle.tree.specs.Measures.{worstSlack, wireLength}
 use Rattle.tree.specs.Defects.{wrongChildren, unreached}
-use Rattle.formats.specs.Reading.{Outcome, value, refused, andThen}
-use Rattle.formats.specs.NetText.{readNet}
-use Rattle.formats.specs.ListingText.{Listing, readListing}
+use Rattle.formats.specs.Outcome.{Outcome, value, refused, andThen}
+use Rattle.formats.specs.Reading.Nets.{readNet}
+use Rattle.formats.specs.ListingText.{Listing}
+use Rattle.formats.specs.Reading.Listings.{readListing}
 use Rattle.formats.specs.declared.refusal.Refusal.{Refusal}
 use Rattle.formats.specs.declared.refusal.Refusal.the-variants.{WrongChildren, NotReached, OtherSlack, OtherWire}
 

@@ -11,8 +11,8 @@ use Rattle.tree.specs.Measures.{worstSlack, wireLength}
 use Rattle.tree.specs.Kraft.{kraftMaximum}
 use Rattle.tree.specs.Settling.{plan}
 use Rattle.formats.specs.Refusals.{told}
-use Rattle.formats.specs.Reading.{Outcome, value, refused, andThen}
-use Rattle.formats.specs.NetText.{readNet}
+use Rattle.formats.specs.Outcome.{Outcome, value, refused, andThen}
+use Rattle.formats.specs.Reading.Nets.{readNet}
 use Rattle.formats.specs.ListingText.{Listing, listingText}
 use Rattle.formats.specs.declared.refusal.Refusal.the-variants.{Unreachable, TooShort}
 use Rattle.operations.specs.Accepting.{Accepted, accepted}

@@ -5,7 +5,7 @@ use mathlib.Core.List.{List}
 use Rattle.tree.specs.Net.{Net, size}
 use Rattle.tree.specs.Limits.{InRange}
 use Rattle.formats.specs.Limits.{pinLimit}
-use Rattle.formats.specs.Reading.{refused}
+use Rattle.formats.specs.Outcome.{refused}
 use Rattle.formats.specs.NetText.{netText, pinDistance, InFormat}
 use Rattle.formats.specs.FirstFar.{FirstFar, FarPinAt}
 use Rattle.formats.specs.declared.refusal.Refusal.the-variants.{FarPin}

@@ -1,6 +1,7 @@
 -- What a reviewer believes of the operations, bottom first.
 pub mod Accepting
 pub mod Answers
+pub mod Refusing
 pub mod Demands
 pub mod FarPins
 pub mod Marked

@@ -1,4 +1,4 @@
--- The marked nets and lines of document 01, those with a star, and those of requests 1 and 2 of 02, as one statement: what is said of texts here, the rest in the tree's own.
+-- The marked nets and lines of document 01 and those of requests 1 and 2 of 02, as one statement: what is said of texts here, the rest in the tree's own.
 use Prim.Native.Nat.{ℕ, _≤_}
 use mathlib.Core.Path.{_≡_}
 use mathlib.Core.List.{List, [], _∷_, _++_}
@@ -10,9 +10,10 @@ use Rattle.tree.specs.Net.{Net}
 use Rattle.tree.specs.Marked as tree
 use Rattle.formats.specs.Bytes.{bytes}
 use Rattle.formats.specs.NetText.{InFormat}
-use Rattle.formats.specs.Reading.{value, refused}
+use Rattle.formats.specs.Outcome.{value, refused}
 use Rattle.formats.specs.declared.refusal.Text.the-variants.{InNet}
-use Rattle.formats.specs.declared.refusal.Refusal.the-variants.{OutOfRange, Unreachable, WrongChildren, NotReached, OtherSlack, OtherWire, FarPin}
+use Rattle.formats.specs.declared.refusal.Refusal.{Refusal}
+use Rattle.formats.specs.declared.refusal.Refusal.the-variants.{NotDue, OutOfRange, Unreachable, WrongChildren, NotReached, OtherSlack, OtherWire, FarPin}
 use Rattle.operations.specs.Answers.{planOf, planListing, judgeOf}
 
 -- A, and A with `need=1`
@@ -25,6 +26,13 @@ textA1 = bytes "root=0,0\nbranch=20\nwire=2\nneed=1\nsinks=3\nsink=10,0,100\nsin
 -- "prints exactly, a line each"
 abbrev pub listingA : List ℕ
 listingA = bytes "slack=0\nwire=32\nsinks=3\nleaf=1,5\nleaf=2,5\nleaf=3,4\nnode=4,0,4,0\nnode=5,4,4,0\n"
+
+-- "Three sinks at the root 0,0 with a = 0, c = 20, d = 2, t = -40"
+abbrev pub textThree : List ℕ
+textThree = bytes "root=0,0\nbranch=20\nwire=2\nneed=-40\nsinks=3\nsink=0,0,0\nsink=0,0,0\nsink=0,0,0\n"
+
+abbrev pub listingThree : List ℕ
+listingThree = bytes "slack=-40\nwire=0\nsinks=3\nleaf=1,5\nleaf=2,4\nleaf=3,5\nnode=4,0,0,0\nnode=5,4,0,0\n"
 
 -- 02, request 1: the edge above a branch point is the nearest, and the nearer of two sinks
 abbrev pub textRootNearest : List ℕ
@@ -46,6 +54,11 @@ pinText root pin = bytes "root=" ++ (bytes root ++ (bytes "\nbranch=20\nwire=2\n
 abbrev pub pinNet : Point → Point → Net
 pinNet root pin = record { root = root; branch = 20; wire = record { 0 = 2 }; need = negℤ (pos 2_000_000_000_000); sinks = record { point = pin; required = pos 100 } ∷ [] }
 
+-- a net that is refused so by plan and by judge, whatever the output or the listing is
+pub record TurnedAway (net : List ℕ) (e : Refusal) : Type 0 where
+  pub plan : (room : ℕ) → planOf net room ≡ refused e
+  pub judge : (listing : List ℕ) → judgeOf net listing ≡ refused e
+
 pub record Marked : Type 0 where
   pub measures : tree.Marked
   pub A-format : InFormat textA tree.netA
@@ -56,6 +69,12 @@ pub record Marked : Type 0 where
   pub A-judge : judgeOf textA listingA ≡ value (record { slack = pos 0; wire = 32; best = pos 0 })
   -- "A with `need=1`: 5,1,4", whatever the output's length
   pub A-need : (room : ℕ) → planOf textA1 room ≡ refused Unreachable
+  -- judge "does not look at need"
+  pub A-need-judge : judgeOf textA1 listingA ≡ value (record { slack = pos 0; wire = 32; best = pos 0 })
+  -- three sinks at the root: "slack -40, wire 0, .. parents of 1 to 5 are 5, 4, 5, 0, 4", and t = -40 is reached
+  pub three-format : InFormat textThree tree.threeAtRoot
+  pub three-plan : (room : ℕ) → length listingThree ≤ room → planOf textThree room ≡ value (record { slack = negℤ (pos 40); wire = 0; bytes = listingThree })
+  pub three-judge : judgeOf textThree listingThree ≡ value (record { slack = negℤ (pos 40); wire = 0; best = negℤ (pos 40) })
   -- "A's listing with `slack=1`: 11,2,1. With `wire=31`: 12,2,2."
   pub A-slack : judgeOf textA (bytes "slack=1\nwire=32\nsinks=3\nleaf=1,5\nleaf=2,5\nleaf=3,4\nnode=4,0,4,0\nnode=5,4,4,0\n") ≡ refused OtherSlack
   pub A-wire : judgeOf textA (bytes "slack=0\nwire=31\nsinks=3\nleaf=1,5\nleaf=2,5\nleaf=3,4\nnode=4,0,4,0\nnode=5,4,4,0\n") ≡ refused OtherWire
@@ -63,6 +82,11 @@ pub record Marked : Type 0 where
   pub ring : judgeOf textA (bytes "slack=0\nwire=32\nsinks=3\nleaf=1,0\nleaf=2,4\nleaf=3,5\nnode=4,5,4,0\nnode=5,4,4,0\n") ≡ refused (NotReached 5)
   -- "n = 3, parents 4, 4, 4, 0, 4: 9,2,7."
   pub four-children : judgeOf textA (bytes "slack=0\nwire=32\nsinks=3\nleaf=1,4\nleaf=2,4\nleaf=3,4\nnode=4,0,4,0\nnode=5,4,4,0\n") ≡ refused (WrongChildren 7)
+  -- "Empty net: 2,1,1. `branch=0`: 3,1,2. `need=-0`: 2,1,4. .. `sinks=513`: 3,1,5."
+  pub empty-net : TurnedAway [] (NotDue InNet 1)
+  pub branch-0 : TurnedAway (bytes "root=0,0\nbranch=0\nwire=2\nneed=0\nsinks=3\nsink=10,0,100\nsink=4,6,60\nsink=10,10,70\n") (OutOfRange InNet 2)
+  pub need-minus-0 : TurnedAway (bytes "root=0,0\nbranch=20\nwire=2\nneed=-0\nsinks=3\nsink=10,0,100\nsink=4,6,60\nsink=10,10,70\n") (NotDue InNet 4)
+  pub sinks-513 : TurnedAway (bytes "root=0,0\nbranch=20\nwire=2\nneed=0\nsinks=513\nsink=10,0,100\nsink=4,6,60\nsink=10,10,70\n") (OutOfRange InNet 5)
   -- the two nets of request 1, their whole listings, and that judge reads them back
   pub root-format : InFormat textRootNearest tree.rootNearest
   pub root-listing : planListing tree.rootNearest ≡ listingRootNearest
@@ -70,15 +94,18 @@ pub record Marked : Type 0 where
   pub sink-format : InFormat textNearerSink tree.nearerSink
   pub sink-listing : planListing tree.nearerSink ≡ listingNearerSink
   pub sink-judge : judgeOf textNearerSink listingNearerSink ≡ value (record { slack = negℤ (pos 40); wire = 21; best = negℤ (pos 40) })
-  -- "the case of X 100000 in 01 passes only with a root near enough": else plan and judge give 13,1,6, whatever the output or the listing is
+  -- "X 100000 passes, 100001: 3", of the root and the sinks, and Y the same; by 02 "only with a root near enough": else 13,1,6
   pub across-near : InFormat (pinText "60000,0" "100000,0") (pinNet (tree.point (pos 60_000) (pos 0)) (tree.point (pos 100_000) (pos 0)))
-  pub across-plan : (room : ℕ) → planOf (pinText "0,0" "100000,0") room ≡ refused (FarPin 6)
-  pub across-judge : (listing : List ℕ) → judgeOf (pinText "0,0" "100000,0") listing ≡ refused (FarPin 6)
+  pub corner-near : InFormat (pinText "-100000,100000" "-100000,100000") (pinNet (tree.point (negℤ (pos 100_000)) (pos 100_000)) (tree.point (negℤ (pos 100_000)) (pos 100_000)))
+  pub across : TurnedAway (pinText "0,0" "100000,0") (FarPin 6)
+  pub root-x-range : TurnedAway (pinText "100001,0" "100000,0") (OutOfRange InNet 1)
+  pub root-y-range : TurnedAway (pinText "0,-100001" "0,-100000") (OutOfRange InNet 1)
   -- "right after 3 on that line": 100001 is out of range, however far off
-  pub across-range : (room : ℕ) → planOf (pinText "0,0" "100001,0") room ≡ refused (OutOfRange InNet 6)
+  pub sink-x-range : TurnedAway (pinText "0,0" "100001,0") (OutOfRange InNet 6)
+  pub sink-y-range : TurnedAway (pinText "0,100000" "0,100001") (OutOfRange InNet 6)
   -- "more than 40,000 micrometres from the root"
   pub at-limit : InFormat (pinText "0,0" "40000,0") (pinNet (tree.point (pos 0) (pos 0)) (tree.point (pos 40_000) (pos 0)))
-  pub past-limit : (room : ℕ) → planOf (pinText "0,0" "40001,0") room ≡ refused (FarPin 6)
+  pub past-limit : TurnedAway (pinText "0,0" "40001,0") (FarPin 6)
   -- the same where |dx| and |dy| both count
   pub both-at-limit : InFormat (pinText "-10000,5000" "5000,-20000") (pinNet (tree.point (negℤ (pos 10_000)) (pos 5_000)) (tree.point (pos 5_000) (negℤ (pos 20_000))))
-  pub both-past-limit : (room : ℕ) → planOf (pinText "-10000,5000" "5000,-20001") room ≡ refused (FarPin 6)
+  pub both-past-limit : TurnedAway (pinText "-10000,5000" "5000,-20001") (FarPin 6)

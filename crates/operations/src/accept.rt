@@ -52,17 +52,12 @@ fn accept_stated(
     let tally = measure_tree(header, n, parents, xs, ys, required, queue, slacks);
     let worst = tally.worst;
     let total = tally.wire;
-    if slack.is_less(worst) {
+    if !slack.is_same(worst) {
         return Acceptance::NotAccepted {
             refusal: Refusal::OtherSlack,
         };
     }
-    if worst.is_less(slack) {
-        return Acceptance::NotAccepted {
-            refusal: Refusal::OtherSlack,
-        };
-    }
-    if wire.value() != total.value() {
+    if !wire.is_same(total) {
         return Acceptance::NotAccepted {
             refusal: Refusal::OtherWire,
         };

@@ -1,7 +1,7 @@
 // Lengths of wire, in micrometres.
 ghost use mathlib.Core.Path.{_≡_};
 ghost use Prim.Native.Nat.{_+_, _≤_};
-ghost use lib.Dec.{ltb};
+ghost use lib.Dec.{ltb, eqb};
 ghost use Rattle.quantities.specs.Inner.Reach.{lengthReach};
 
 pub struct Length(u64);
@@ -14,7 +14,8 @@ impl Length {
         Length(micrometres)
     }
 
-    pub fn value(self) -> u64
+    // The one way to a length's number: for the product with the wire factor and for what goes out. The gate lists every place that takes it.
+    pub fn micrometres(self) -> u64
         ensures { λ r. ⌜ r ≡ self .0 ⌝ }
     {
         self.0
@@ -31,5 +32,11 @@ impl Length {
         ensures { λ r. ⌜ r ≡ ltb (self .0) (other .0) ⌝ }
     {
         self.0 < other.0
+    }
+
+    pub fn is_same(self, other: Length) -> bool
+        ensures { λ r. ⌜ r ≡ eqb (self .0) (other .0) ⌝ }
+    {
+        self.0 == other.0
     }
 }

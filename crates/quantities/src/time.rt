@@ -1,8 +1,9 @@
 // Times, in femtoseconds: arrivals, delays and slacks.
+ghost use mathlib.Core.Bool.{_&&_};
 ghost use mathlib.Core.Path.{_≡_};
 ghost use Prim.Native.Nat.{_≤_};
 ghost use lib.IntN.{pos, _+ℤ_, _-ℤ_, _*ℤ_};
-ghost use lib.Signed.{ltZ};
+ghost use lib.Signed.{ltZ, leZ};
 ghost use Rattle.quantities.specs.Ranges.{Within};
 ghost use Rattle.quantities.specs.Inner.Reach.{timeReach, factorReach, termReach};
 ghost use Rattle.quantities.specs.MinMax.{minℤ};
@@ -17,7 +18,7 @@ impl Time {
         Time(femtoseconds)
     }
 
-    pub fn value(self) -> i64
+    pub fn femtoseconds(self) -> i64
         ensures { λ r. ⌜ r ≡ self .0 ⌝ }
     {
         self.0
@@ -49,6 +50,12 @@ impl Time {
         ensures { λ r. ⌜ r ≡ ltZ (self .0) (other .0) ⌝ }
     {
         self.0 < other.0
+    }
+
+    pub fn is_same(self, other: Time) -> bool
+        ensures { λ r. ⌜ r ≡ (leZ (self .0) (other .0) && leZ (other .0) (self .0)) ⌝ }
+    {
+        self.0 == other.0
     }
 
     pub fn least(self, other: Time) -> Self

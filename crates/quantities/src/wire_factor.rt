@@ -22,7 +22,7 @@ impl WireFactor {
         requires { ⌜ FactorWithin factorReach self × PointWithin coordinateReach p × PointWithin coordinateReach q ⌝ }
         ensures { λ r. ⌜ r .0 ≡ pos (delay self p q) ⌝ }
     {
-        let product = self.0 * distance(p, q).value();
+        let product = self.0 * distance(p, q).micrometres();
         Time::of(product as i64)
     }
 }

@@ -30,8 +30,8 @@ pub extern "C" fn repeater_tree_plan(
         } => {
             *text = 0;
             *line = 0;
-            *slack = worst.value();
-            *wire = total.value();
+            *slack = worst.femtoseconds();
+            *wire = total.micrometres();
             *bytes = written;
             0
         }
@@ -68,9 +68,9 @@ pub extern "C" fn repeater_tree_judge(
         } => {
             *text = 0;
             *line = 0;
-            *slack = worst.value();
-            *wire = total.value();
-            *best = maximum.value();
+            *slack = worst.femtoseconds();
+            *wire = total.micrometres();
+            *best = maximum.femtoseconds();
             0
         }
         JudgeAnswer::JudgeRefused { refusal } => {

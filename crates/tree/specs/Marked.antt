@@ -11,8 +11,9 @@ use Rattle.tree.specs.Net.{Net, Sink, ownSlacks}
 use Rattle.tree.specs.Tree.{Tree, Legal, LegalTree}
 use Rattle.tree.specs.Measures.{worstSlack, wireLength}
 use Rattle.tree.specs.Kraft.{IsKraftMaximum}
+use Rattle.tree.specs.Planning.{lowerEnds}
 use Rattle.tree.specs.Settling.{plan}
-use Rattle.tree.specs.SmallestSlack.{leastUnder, worstWith}
+use Rattle.tree.specs.SmallestSlack.{sinksIn, leastUnder, worstWith}
 use Rattle.tree.specs.Defects.{wrongChildren, unreached}
 
 abbrev pub point : ℤ → ℤ → Point
@@ -45,9 +46,10 @@ threeAtRoot = record {
 abbrev pub oneSink : ℕ → Net
 oneSink c = record { root = point (pos 0) (pos 0); branch = c; wire = record { 0 = 2 }; need = pos 0; sinks = sink (pos 3) (pos 4) (pos 10) ∷ [] }
 
--- "Two sinks of own slack 5, c = 3"
-abbrev pub twoSinks : Net
-twoSinks = record { root = point (pos 0) (pos 0); branch = 3; wire = record { 0 = 2 }; need = pos 0; sinks = sink (pos 1) (pos 0) (pos 7) ∷ (sink (pos 0) (pos 0) (pos 5) ∷ []) }
+-- "Two sinks of own slack 5, c = 3": any such net
+pub record TwoSinks (N : Net) : Type 0 where
+  pub own : ownSlacks N ≡ pos 5 ∷ (pos 5 ∷ [])
+  pub branch : N .branch ≡ 3
 
 -- 02, request 1: two tied sinks away from the new one, which is near the root
 abbrev pub rootNearest : Net
@@ -86,8 +88,11 @@ pub record Marked : Type 0 where
   pub one-slack : (c : ℕ) → worstSlack (oneSink c) (plan (oneSink c)) ≡ negℤ (pos 4)
   pub one-wire : (c : ℕ) → wireLength (oneSink c) (plan (oneSink c)) ≡ 7
   pub one-best : (c : ℕ) → 0 < c → IsKraftMaximum c (ownSlacks (oneSink c)) (negℤ (pos 4))
-  -- two sinks: "slack 2"
-  pub two-slack : worstSlack twoSinks (plan twoSinks) ≡ pos 2
+  -- two sinks: "slack 2", of the plan, and no legal tree has more
+  pub two-slack : (N : Net) → TwoSinks N → worstSlack N (plan N) ≡ pos 2
+  pub two-best : (N : Net) → TwoSinks N → IsKraftMaximum (N .branch) (ownSlacks N) (pos 2)
+  -- there are such nets
+  pub two-some : TwoSinks (record { root = point (pos 0) (pos 0); branch = 3; wire = record { 0 = 2 }; need = pos 0; sinks = sink (pos 1) (pos 0) (pos 7) ∷ (sink (pos 0) (pos 0) (pos 5) ∷ []) })
   -- the edge above branch point 4, counted at the root's position, is the nearest: parents of 1 to 5 are 4, 4, 5, 5, 0
   pub nearest-root : plan rootNearest ≡ record { parents = 4 ∷ (4 ∷ (5 ∷ (5 ∷ (0 ∷ [])))); points = point (pos 10) (pos 0) ∷ (point (pos 1) (pos 0) ∷ []) }
   pub nearest-root-slack : worstSlack rootNearest (plan rootNearest) ≡ negℤ (pos 40)
@@ -102,7 +107,8 @@ pub record Marked : Type 0 where
   pub A-tried : map (worstWith netA 1) (2 ∷ (3 ∷ (4 ∷ []))) ≡ pos 0 ∷ (negℤ (pos 10) ∷ (negℤ (pos 10) ∷ []))
   -- the whole tree of A: the least slacks under 0 to 5
   pub A-gathered-all : map (leastUnder netA 2) (0 ∷ (1 ∷ (2 ∷ (3 ∷ (4 ∷ (5 ∷ [])))))) ≡ pos 0 ∷ (pos 40 ∷ (pos 0 ∷ (pos 10 ∷ (pos 0 ∷ (pos 0 ∷ [])))))
-  -- three sinks at the root: "all edges tie for sink 3", the one above branch point 4 too
+  -- three sinks at the root: "all edges tie for sink 3": those to 1, 2 and branch point 4, each with worst slack -40
+  pub three-edges : lowerEnds 3 (sinksIn threeAtRoot 1) 1 ≡ 1 ∷ (2 ∷ (4 ∷ []))
   pub three-tried : map (worstWith threeAtRoot 1) (1 ∷ (2 ∷ (4 ∷ []))) ≡ negℤ (pos 40) ∷ (negℤ (pos 40) ∷ (negℤ (pos 40) ∷ []))
   -- "The median of 0,0 and 4,6 and 10,0 is 4,0."
   pub median-of-three : medianPoint (point (pos 0) (pos 0)) (point (pos 4) (pos 6)) (point (pos 10) (pos 0)) ≡ point (pos 4) (pos 0)

@@ -1,5 +1,5 @@
 -- The smallest slack under each vertex: document 02, request 3. Definitions, and the request's promises as one statement.
-use Prim.Native.Nat.{ℕ, suc, _<_}
+use Prim.Native.Nat.{ℕ, suc, _≤_, _<_}
 use mathlib.Core.Path.{_≡_}
 use mathlib.Core.Bool.{Bool}
 use mathlib.Core.Logic.{_↔_, _≢_, _⊎_}
@@ -67,8 +67,12 @@ scoreOf branch slacks v = minℤ (getD slacks 0 (pos 0)) (getD slacks v (pos 0) 
 abbrev pub worstWith : Net → ℕ → ℕ → ℤ
 worstWith N j v = worstAfter N (sinksIn N j) j (parentsAfter tieRule N j) (nextSink N j) v
 
-pub record SmallestSlack (N : Net) : Type 0 where
+pub record SmallestSlackFor (N : Net) : Type 0 where
   -- "Each gathered number is proved to be the least slack of the sinks at or under its vertex in the tree so far": what is gathered from the leaves up, and nothing else
   pub gathered : (j : ℕ) → j < size N → (slacks : List ℤ) → FromLeavesUp N j slacks ↔ Gathered N j slacks
   -- "and the number got from these for each edge to be the enlarged tree's worst slack": every edge, those above branch points too
   pub tried : (j : ℕ) → suc j < size N → (slacks : List ℤ) → Gathered N j slacks → (v : ℕ) → InTree N j v → scoreOf (pos (N .branch)) slacks v ≡ worstWith N j v
+
+-- for every net where a branch point costs something
+abbrev pub SmallestSlack : Type 0
+SmallestSlack = (N : Net) → 1 ≤ N .branch → SmallestSlackFor N

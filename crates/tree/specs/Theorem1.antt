@@ -1,4 +1,4 @@
--- Theorem 1 of document 000 in the words of document 01, 'Planning', and what 01 says of planning besides: one statement about any net.
+-- Theorem 1 of document 000 in the words of document 01, 'Planning', and what 01 says of planning besides: one statement, with its hypotheses.
 use Prim.Native.Nat.{ℕ, suc, _-_, _^_, _≤_, _<_}
 use mathlib.Core.Path.{_≡_}
 use mathlib.Core.Logic.{_↔_, _≢_}
@@ -14,7 +14,8 @@ use Rattle.tree.specs.Kraft.{IsKraftMaximum, kraftMaximum}
 use Rattle.tree.specs.Planning.{order, unsettled, tieRule, parentsAfter}
 use Rattle.tree.specs.Settling.{settledTree, plan}
 
-pub record Theorem1 (N : Net) : Type 0 where
+-- what is said of one net
+pub record Theorem1For (N : Net) : Type 0 where
   -- exactly one number is the Kraft maximum, and the search finds it
   pub maximum : IsKraftMaximum (N .branch) (ownSlacks N) (kraftMaximum (N .branch) (ownSlacks N))
   pub only : (s : ℤ) → IsKraftMaximum (N .branch) (ownSlacks N) s → s ≡ kraftMaximum (N .branch) (ownSlacks N)
@@ -29,3 +30,7 @@ pub record Theorem1 (N : Net) : Type 0 where
       → sumOver (take (suc j) (order N)) (λ s. 2 ^ (m - depth N (unsettled N (parentsAfter tieRule N j)) s)) ≡ 2 ^ m
   -- Settling: "No sink's slack changes."
   pub settling : (P : List ℕ) → Legal (size N) P → (s : ℕ) → 1 ≤ s → s ≤ size N → slack N (settledTree N P) s ≡ slack N (unsettled N P) s
+
+-- "For every net in the format", and beyond its ranges: wherever c is at least 1 and there is a sink
+abbrev pub Theorem1 : Type 0
+Theorem1 = (N : Net) → 1 ≤ N .branch → 1 ≤ size N → Theorem1For N

@@ -153,7 +153,7 @@ fn spend(
     let mut i = 0;
     while i < 2 * n - 1 {
         let v = queue[i];
-        spent[v] = spent_at(h, n, parents, xs, ys, spent, v).value();
+        spent[v] = spent_at(h, n, parents, xs, ys, spent, v).femtoseconds();
         i += 1;
     }
 }
@@ -165,7 +165,9 @@ fn sink_slacks(n: usize, required: &[i64], slacks: &mut [i64])
 {
     let mut s = 1;
     while s <= n {
-        slacks[s] = Time::of(required[s]).minus(Time::of(slacks[s])).value();
+        slacks[s] = Time::of(required[s])
+            .minus(Time::of(slacks[s]))
+            .femtoseconds();
         s += 1;
     }
 }

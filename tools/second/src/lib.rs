@@ -8,6 +8,7 @@ pub mod near;
 pub mod nets;
 pub mod pins;
 pub mod planners;
+pub mod printed;
 pub mod programs;
 pub mod random;
 pub mod session;

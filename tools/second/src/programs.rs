@@ -10,8 +10,12 @@ use second_reference::plain;
 use std::io::{Result, Write};
 use std::path::{Path, PathBuf};
 use std::process::{Command, Stdio};
+use std::sync::atomic::{AtomicUsize, Ordering};
 
 const CASES: u64 = 60;
+
+/// How many folders to work in there have been.
+static PLACES: AtomicUsize = AtomicUsize::new(0);
 
 /// The folder of the programs, and one to work in for as long as this lives.
 pub struct Programs {
@@ -21,7 +25,8 @@ pub struct Programs {
 
 impl Programs {
     pub fn of(folder: &Path) -> Result<Programs> {
-        let name = format!("repeater_tree_programs_{}", std::process::id());
+        let place = PLACES.fetch_add(1, Ordering::Relaxed);
+        let name = format!("repeater_tree_programs_{}_{place}", std::process::id());
         let programs = Programs {
             folder: folder.canonicalize()?,
             work: std::env::temp_dir().join(name),
@@ -30,12 +35,23 @@ impl Programs {
         Ok(programs)
     }
 
+    /// A program, run in the folder to work in; what it prints is kept.
+    pub fn command(&self, name: &str) -> Command {
+        let mut command = Command::new(self.folder.join(name));
+        command
+            .current_dir(&self.work)
+            .stdout(Stdio::piped())
+            .stderr(Stdio::piped());
+        command
+    }
+
+    pub fn work(&self) -> &Path {
+        &self.work
+    }
+
     /// What `plan` prints.
     pub fn plan(&self, net: &[u8]) -> Result<Vec<u8>> {
-        let mut child = Command::new(self.folder.join("plan"))
-            .stdin(Stdio::piped())
-            .stdout(Stdio::piped())
-            .spawn()?;
+        let mut child = self.command("plan").stdin(Stdio::piped()).spawn()?;
         let mut input = child.stdin.take().expect("piped");
         // In two pieces, as a pipe may deliver it. A program may stop reading
         // at the length limit, so a broken pipe is no fault.
@@ -52,10 +68,7 @@ impl Programs {
     pub fn judge(&self, net: &[u8], listing: &[u8]) -> Result<Vec<u8>> {
         std::fs::write(self.work.join("net.txt"), net)?;
         std::fs::write(self.work.join("tree.txt"), listing)?;
-        Ok(Command::new(self.folder.join("judge"))
-            .current_dir(&self.work)
-            .output()?
-            .stdout)
+        Ok(self.command("judge").output()?.stdout)
     }
 }
 

@@ -14,9 +14,10 @@ use Rattle.tree.specs.Inner.Arrays.{pointAt, netOf, treeOf, HoldsNet, HoldsTree
 use Rattle.tree.proofs.Laws.Lists.Tables.{table-at, table-cong}
 use Rattle.tree.proofs.Laws.Arrays.NetAndTree.{size-is, sink-at, parents-at, parents-length}
 use Rattle.tree.proofs.Laws.Arrays.PlanArrays.{some-few}
-use Rattle.formats.specs.Reading.{value}
-use Rattle.formats.specs.NetText.{readNet}
-use Rattle.formats.specs.ListingText.{ListingInRange, readListing}
+use Rattle.formats.specs.Outcome.{value}
+use Rattle.formats.specs.Reading.Nets.{readNet}
+use Rattle.formats.specs.ListingText.{ListingInRange}
+use Rattle.formats.specs.Reading.Listings.{readListing}
 use Rattle.formats.proofs.Laws.Nets.NetTexts.{net-sound}
 use Rattle.formats.proofs.Laws.Listings.ListingTexts.{listing-sound}
 
@@ -66,7 +67,7 @@ module _ (h : Header) (n : ℕ) (xs ys rs : List ℤ) where
       }
         where
           in-range : ListingInRange n (record { slack = slack; wire = wire; tree = treeOf n ps xs′ ys′ })
-          in-range = listing-sound n text (record { slack = slack; wire = wire; tree = treeOf n ps xs′ ys′ }) e .in-range
+          in-range = listing-sound n text (record { slack = slack; wire = wire; tree = treeOf n ps xs′ ys′ }) e .0 .in-range
 
           inside : (v : ℕ) → 1 ≤ v → v < 2 * n → getD ps v 0 < 2 * n
           inside zero g l = absurd (omega arith)

@@ -2,6 +2,7 @@
 pub mod Keys
 pub mod Rows
 pub mod Lines
+pub mod OneLine
 pub mod Outcomes
 pub mod Refusals
 pub mod Due

@@ -2,5 +2,6 @@
 pub mod DueFor
 pub mod ListingLines
 pub mod ListingTexts
+pub mod OneText
 pub mod ListingWriting
 pub mod ListingLengths

@@ -1,9 +1,8 @@
 -- The text of a net in range, or of a listing in range, is within its length; so it is in the format, that of a net where its pins are near enough. Assumes nothing.
 use Prim.Native.Nat.{ℕ, zero, suc, _+_, _*_, _-_, _^_, _≤_, _<_}
-use mathlib.Core.Path.{_≡_, refl}
-use mathlib.Core.Logic.{_⊎_}
+use mathlib.Core.Path.{refl}
 use mathlib.Core.List.{List, [], _∷_}
-use lib.ListN.{length, getD, length-append}
+use lib.ListN.{length, length-append}
 use lib.IntN.{ℤ, pos}
 use mathlib.Core.Bool.{true, false}
 use lib.Dec.{ltb}
@@ -130,5 +129,5 @@ module _ (n : ℕ) (G : Listing) (h : ListingInRange n G) where
 pub net-in-format : (N : Net) → InRange N → ((v : ℕ) → 1 ≤ v → v ≤ size N → pinDistance N v ≤ pinLimit) → InFormat (netText N) N
 net-in-format N h near = record { spelled = refl; in-range = h; near = near; short = net-short N h }
 
-pub listing-in-format : (n : ℕ) (G : Listing) → ListingInRange n G → ((i : ℕ) → i < length (G .tree .parents) → (getD (G .tree .parents) i 0 ≡ 0) ⊎ (n < getD (G .tree .parents) i 0)) → ListingInFormat n (listingText n G) G
-listing-in-format n G h f = record { spelled = refl; in-range = h; short = listing-short n G h; no-sink = f }
+pub listing-in-format : (n : ℕ) (G : Listing) → ListingInRange n G → ListingInFormat n (listingText n G) G
+listing-in-format n G h = record { spelled = refl; in-range = h; short = listing-short n G h }

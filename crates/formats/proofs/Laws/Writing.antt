@@ -8,7 +8,8 @@ use lib.Seq.{length-take-le, take-at, drop-at, drop-drop, drop-append-add, take-
 use lib.IntN.{ℤ, natAbs}
 use native.Mathlib.Omega.{arith}
 use native.Mathlib.Nat.{add-zero}
-use Rattle.formats.specs.Decimal.{show, isDigit, spelt, field, isNegative}
+use Rattle.formats.specs.Decimal.{show}
+use Rattle.formats.specs.Reading.Numbers.{isDigit, spelt, field, isNegative}
 use Rattle.formats.specs.Bytes.{endByte, comma}
 use Rattle.formats.specs.Line.{lineText}
 use Rattle.formats.specs.Inner.Writing.{over, Puts, oneThen, twoThen}

@@ -10,8 +10,10 @@ use Rattle.tree.specs.Lists.{range}
 use Rattle.tree.specs.Inner.Arrays.{pointAt, treeOf}
 use Rattle.tree.specs.Tree.{Tree}
 use Rattle.tree.specs.Limits.{sinkLimit}
-use Rattle.formats.specs.Reading.{Outcome, value, refused, andThen, Read, reading}
-use Rattle.formats.specs.ListingText.{Listing, Stated, dueTotal, dueSame, Vertex, dueLeaf, dueNode, readVertices, parentsIn}
+use Rattle.formats.specs.Outcome.{Outcome, value, refused, andThen}
+use Rattle.formats.specs.ListingText.{Listing}
+use Rattle.formats.specs.Reading.Lines.{Read, reading}
+use Rattle.formats.specs.Reading.Listings.{Stated, dueTotal, dueSame, Vertex, dueLeaf, dueNode, readVertices, parentsIn}
 use Rattle.formats.specs.Inner.Readers.{ReadTo}
 use Rattle.formats.specs.declared.reader.Place.{Place}
 use Rattle.formats.specs.declared.read_listing.ListingRead.{ListingRead}

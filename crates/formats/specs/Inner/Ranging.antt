@@ -5,7 +5,7 @@ use mathlib.Core.Bool.{Bool, true, false}
 use mathlib.Core.List.{List, [], _∷_}
 use lib.IntN.{ℤ, pos, negℤ}
 use lib.Signed.{_<ℤ_}
-use Rattle.formats.specs.Reading.{inside}
+use Rattle.formats.specs.Reading.Lines.{inside}
 use Rattle.formats.specs.Inner.Scanning.{held, magnitudeCap}
 use Rattle.formats.specs.declared.ranges.Range.{Range}
 use Rattle.formats.specs.declared.number.Number.{Number}

@@ -13,8 +13,9 @@ use Rattle.tree.specs.declared.header.Header.{Header}
 use Rattle.tree.specs.Net.{Net, Sink, sinkNumbers}
 use Rattle.tree.specs.Inner.Arrays.{pointAt, netOf}
 use Rattle.tree.specs.Limits.{positionLimit, sinkLimit}
-use Rattle.formats.specs.Reading.{inside, Outcome, value, refused, andThen, Read, dueNumber}
-use Rattle.formats.specs.NetText.{Head, dueBranch, dueWire, dueNeed, dueCount, sinkOf, dueSink, readRest, netWith, readNet}
+use Rattle.formats.specs.Outcome.{Outcome, value, refused, andThen}
+use Rattle.formats.specs.Reading.Lines.{inside, Read, dueNumber}
+use Rattle.formats.specs.Reading.Nets.{Head, dueBranch, dueWire, dueNeed, dueCount, sinkOf, dueSink, readRest, netWith, readNet}
 use Rattle.formats.specs.declared.ranges.Range.{Range}
 use Rattle.formats.specs.declared.refusal.Text.{Text}
 use Rattle.formats.specs.declared.reader.Place.{Place}

@@ -4,8 +4,8 @@ use mathlib.Core.Bool.{Bool}
 use mathlib.Core.List.{List}
 use lib.ListN.{length, getD, drop}
 use lib.IntN.{ℤ, pos, natAbs}
-use Rattle.formats.specs.Decimal.{Field, spelt, misspelt, lead, value, isNegative}
-use Rattle.formats.specs.Line.{Row, row, misspelled}
+use Rattle.formats.specs.Reading.Numbers.{Field, spelt, misspelt, lead, value, isNegative}
+use Rattle.formats.specs.Reading.Rows.{Row, row, misspelled}
 use Rattle.formats.specs.declared.number.Number.{Number}
 use Rattle.formats.specs.declared.scan.Run.{Run}
 use Rattle.formats.specs.declared.scan.Scanned.{Scanned}

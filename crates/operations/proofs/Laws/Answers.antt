@@ -15,8 +15,8 @@ use Rattle.tree.specs.Net.{Net}
 use Rattle.tree.specs.Measures.{worstSlack, wireLength}
 use Rattle.tree.specs.Settling.{plan}
 use Rattle.formats.specs.Refusals.{told}
-use Rattle.formats.specs.Reading.{Outcome, value, refused}
-use Rattle.formats.specs.NetText.{readNet}
+use Rattle.formats.specs.Outcome.{Outcome, value, refused}
+use Rattle.formats.specs.Reading.Nets.{readNet}
 use Rattle.formats.specs.declared.refusal.Refusal.{Refusal}
 use Rattle.formats.specs.declared.refusal.Refusal.the-variants.{Unreachable, TooShort}
 use Rattle.formats.proofs.Laws.Lines.Outcomes.{then-refused}
@@ -27,9 +27,6 @@ use Rattle.operations.specs.declared.answers.PlanAnswer.{PlanAnswer}
 use Rattle.operations.specs.declared.answers.PlanAnswer.the-variants.{Planned, PlanRefused}
 use Rattle.operations.specs.declared.answers.JudgeAnswer.{JudgeAnswer}
 use Rattle.operations.specs.declared.answers.JudgeAnswer.the-variants.{Judged, JudgeRefused}
-
-pub same-refusal : {A : Type 0} (e f : Refusal) → _≡_ {A = Outcome A} (refused e) (refused f) → e ≡ f
-same-refusal e f h = cc
 
 -- ---- a net that is refused as it is read
 

@@ -7,9 +7,8 @@ use mathlib.Core.List.{List}
 use mathlib.Core.Option.{none, some}
 use native.Mathlib.Omega.{arith}
 use lib.IntN.{ℤ}
-use lib.Signed.{ltZ, leZ}
-use borrow.Author.Tests.{eq-eqb, ne-eqb}
-use Rattle.quantities.specs.Inner.Linear.{whole, leZ-is, leZ-not}
+use lib.Signed.{leZ}
+use lib.Dec.{eqb}
 use Rattle.tree.specs.Net.{Net, size, ownSlacks}
 use Rattle.tree.specs.Measures.{worstSlack, wireLength}
 use Rattle.tree.specs.Kraft.{IsKraftMaximum, kraftMaximum}
@@ -17,9 +16,10 @@ use Rattle.tree.specs.Defects.{wrongChildren, unreached}
 use Rattle.tree.proofs.Laws.Trees.Defects.{unreached-lowest, wrong-lowest}
 use Rattle.tree.proofs.Laws.Kraft.Maximum.{maximum-one}
 use Rattle.tree.proofs.Laws.Planning.AnyTieRule.{maximum-of-net}
-use Rattle.formats.specs.Reading.{Outcome, value, refused, andThen}
-use Rattle.formats.specs.NetText.{readNet}
-use Rattle.formats.specs.ListingText.{Listing, readListing}
+use Rattle.formats.specs.Outcome.{Outcome, value, refused, andThen}
+use Rattle.formats.specs.Reading.Nets.{readNet}
+use Rattle.formats.specs.ListingText.{Listing}
+use Rattle.formats.specs.Reading.Listings.{readListing}
 use Rattle.formats.specs.declared.refusal.Refusal.{Refusal}
 use Rattle.formats.specs.declared.refusal.Refusal.the-variants.{WrongChildren, NotReached, OtherSlack, OtherWire}
 use Rattle.formats.proofs.Laws.Lines.Outcomes.{then-then, then-value, then-refused}
@@ -62,30 +62,17 @@ module _ (N : Net) (G : Listing) (n : ℕ) (sized : size N ≡ n) where
 
 -- ---- 11, 12, or accepted
 
-module _ (a b : ℤ) where
-  less-differs : ltZ a b ≡ true → leZ a b && leZ b a ≡ false
-  less-differs h = rw (leZ-is {a = a} {b = b} (omega (arith, whole)), leZ-not {a = b} {b = a} (omega (arith, whole)))
-
-  more-differs : ltZ b a ≡ true → leZ a b && leZ b a ≡ false
-  more-differs h = rw (leZ-not {a = a} {b = b} (omega (arith, whole)))
-
-  same : ltZ a b ≡ false → ltZ b a ≡ false → leZ a b && leZ b a ≡ true
-  same h k = rw (leZ-is {a = a} {b = b} (omega (arith, whole)), leZ-is {a = b} {b = a} (omega (arith, whole)))
-
 -- w and l are the worst slack and the wire as they were measured
 module _ (N : Net) (G : Listing) (w : ℤ) (l : ℕ) (worst : w ≡ worstSlack N (G .tree)) (total : l ≡ wireLength N (G .tree)) where
-  pub slack-less : ltZ (G .slack) w ≡ true → refused OtherSlack ≡ trueOnly N G
-  slack-less h = rw (trueOnly, ← worst, less-differs (G .slack) w h)
+  pub slack-other : (leZ (G .slack) w && leZ w (G .slack)) ≡ false → refused OtherSlack ≡ trueOnly N G
+  slack-other h = rw (trueOnly, ← worst, h)
 
-  pub slack-more : ltZ w (G .slack) ≡ true → refused OtherSlack ≡ trueOnly N G
-  slack-more h = rw (trueOnly, ← worst, more-differs (G .slack) w h)
+  module _ (slack : (leZ (G .slack) w && leZ w (G .slack)) ≡ true) where
+    pub wire-other : eqb (G .wire) l ≡ false → refused OtherWire ≡ trueOnly N G
+    wire-other h = rw (trueOnly, ← worst, slack, ← total, h)
 
-  module _ (low : ltZ (G .slack) w ≡ false) (high : ltZ w (G .slack) ≡ false) where
-    pub wire-other : (G .wire ≡ l → ⊥) → refused OtherWire ≡ trueOnly N G
-    wire-other h = rw (trueOnly, ← worst, same (G .slack) w low high, ← total, ne-eqb (G .wire) l h)
-
-    pub wire-same : G .wire ≡ l → value G ≡ trueOnly N G
-    wire-same h = rw (trueOnly, ← worst, same (G .slack) w low high, ← total, eq-eqb (G .wire) l h)
+    pub wire-same : eqb (G .wire) l ≡ true → value G ≡ trueOnly N G
+    wire-same h = rw (trueOnly, ← worst, slack, ← total, h)
 
 -- ---- a listing over a net that was read
 

@@ -5,7 +5,8 @@ use mathlib.Core.List.{List, [], _∷_}
 use native.Mathlib.Omega.{arith}
 use lib.ListN.{length}
 use lib.IntN.{ℤ, pos, negℤ}
-use Rattle.quantities.specs.Inner.Linear.{whole}
+use lib.Signed.{_≤ℤ_}
+use Rattle.quantities.specs.Inner.Linear.{whole, up, dn}
 use Rattle.quantities.specs.MinMax.{minℤ, maxℤ}
 use Rattle.quantities.specs.Floor.{floorDiv}
 use Rattle.quantities.specs.Distance.{span, distance}
@@ -17,20 +18,23 @@ use Rattle.tree.specs.Measures.{worstSlack, wireLength}
 use Rattle.tree.specs.Kraft.{kraftMaximum, searchDown}
 use Rattle.tree.specs.Planning.{tieRule}
 use Rattle.tree.specs.Settling.{plan, planBy}
-use Rattle.tree.specs.Marked.{netA, rootNearest, nearerSink, point}
+use Rattle.tree.specs.Marked.{netA, threeAtRoot, rootNearest, nearerSink, point}
 use Rattle.tree.proofs.Laws.Planning.Marked as tree
 use Rattle.formats.specs.Bytes.{bytes}
-use Rattle.formats.specs.Decimal.{digits, showNat, show, lead, natural, field}
-use Rattle.formats.specs.Decimal.{value as digitsValue}
-use Rattle.formats.specs.Line.{numberThen, rowIn, begins, lineIn}
-use Rattle.formats.specs.Reading.{Outcome, value, refused, andThen}
+use Rattle.formats.specs.Decimal.{digits, showNat, show}
+use Rattle.formats.specs.Reading.Numbers.{lead, natural, field}
+use Rattle.formats.specs.Reading.Numbers.{value as digitsValue}
+use Rattle.formats.specs.Reading.Rows.{numberThen, rowIn, begins, lineIn}
+use Rattle.formats.specs.Outcome.{Outcome, value, refused, andThen}
 use Rattle.formats.specs.declared.refusal.Text.the-variants.{InNet}
-use Rattle.formats.specs.declared.refusal.Refusal.the-variants.{OutOfRange, Unreachable, FarPin}
-use Rattle.formats.specs.NetText.{readNet}
-use Rattle.formats.specs.ListingText.{Listing, listingText, readListing}
+use Rattle.formats.specs.declared.refusal.Refusal.{Refusal}
+use Rattle.formats.specs.declared.refusal.Refusal.the-variants.{NotDue, OutOfRange, Unreachable, FarPin}
+use Rattle.formats.specs.Reading.Nets.{readNet}
+use Rattle.formats.specs.ListingText.{Listing, listingText}
+use Rattle.formats.specs.Reading.Listings.{readListing}
 use Rattle.operations.specs.Accepting.{acceptTree}
 use Rattle.operations.specs.Answers.{planOf, planListing, planNet, judgement, judgeOf, Judgement}
-use Rattle.operations.specs.Marked.{textA, textA1, listingA, textRootNearest, listingRootNearest, textNearerSink, listingNearerSink, pinText, Marked}
+use Rattle.operations.specs.Marked.{textA, textA1, listingA, textThree, listingThree, textRootNearest, listingRootNearest, textNearerSink, listingNearerSink, pinText, TurnedAway, Marked}
 use Rattle.formats.proofs.Laws.Nets.NetTexts.{net-sound}
 use Rattle.operations.proofs.Laws.Answers.{plan-refused, judge-refused, Ends, unreachable, short, written, ends}
 use Rattle.operations.proofs.Laws.Judging.{judge-read}
@@ -86,14 +90,19 @@ wire-A : wireLength netA (plan netA) ≡ 32
 unfolding wireLength worstSlack plan planBy minℤ maxℤ median medianPoint delay distance span
 wire-A = refl
 
-A-planned : (room : ℕ) → length listingA ≤ room → planOf textA room ≡ value (record { slack = pos 0; wire = 32; bytes = listingA })
+-- a net that is read as N and reaches its need, planned
+planned-over : (net : List ℕ) (N : Net) → readNet net ≡ value N → (slack : ℤ) (wire : ℕ) (bytes : List ℕ) → worstSlack N (plan N) ≡ slack → wireLength N (plan N) ≡ wire → planListing N ≡ bytes → N .need ≤ℤ slack
+    → (room : ℕ) → length bytes ≤ room → planOf net room ≡ value (record { slack = slack; wire = wire; bytes = bytes })
 unfolding planOf
-A-planned room h = ap (λ o. andThen o (λ N. planNet N room)) read-A ∙ go (ends netA room)
+planned-over net N r slack wire bytes s w l reached room h = ap (λ o. andThen o (λ N. planNet N room)) r ∙ go (ends N room)
   where
-    go : Ends netA room → planNet netA room ≡ value (record { slack = pos 0; wire = 32; bytes = listingA })
-    go (unreachable g f) = absurd (omega (arith, whole, slack-A))
-    go (short g l f) = absurd (omega (arith, ap length plan-A))
-    go (written g l f) = f ∙ (λ i. value (record { slack = slack-A i; wire = wire-A i; bytes = plan-A i }))
+    go : Ends N room → planNet N room ≡ value (record { slack = slack; wire = wire; bytes = bytes })
+    go (unreachable g f) = absurd (omega (arith, whole, ap up s, ap dn s))
+    go (short g k f) = absurd (omega (arith, ap length l))
+    go (written g k f) = f ∙ (λ i. value (record { slack = s i; wire = w i; bytes = l i }))
+
+A-planned : (room : ℕ) → length listingA ≤ room → planOf textA room ≡ value (record { slack = pos 0; wire = 32; bytes = listingA })
+A-planned = planned-over textA netA read-A (pos 0) 32 listingA slack-A wire-A plan-A (omega (arith, whole))
 
 A-unreachable : (room : ℕ) → planOf textA1 room ≡ refused Unreachable
 unfolding planOf netA1 worstSlack plan planBy minℤ maxℤ median medianPoint delay distance span
@@ -102,6 +111,33 @@ A-unreachable room = ap (λ o. andThen o (λ N. planNet N room)) read-A1
 A-judged : judgeOf textA listingA ≡ value (record { slack = pos 0; wire = 32; best = pos 0 })
 unfolding listed tree-of readListing numberThen rowIn begins lineIn field natural digitsValue lead worstSlack wireLength minℤ delay distance span kraftMaximum searchDown floorDiv
 A-judged = judged listingA (listed (pos 0) 32 (5 ∷ (5 ∷ (4 ∷ (0 ∷ (4 ∷ [])))))) refl
+
+A1-judged : judgeOf textA1 listingA ≡ value (record { slack = pos 0; wire = 32; best = pos 0 })
+unfolding netA1 listed tree-of readListing numberThen rowIn begins lineIn field natural digitsValue lead worstSlack wireLength minℤ delay distance span kraftMaximum searchDown floorDiv
+A1-judged = judged-over textA1 netA1 read-A1 listingA (listed (pos 0) 32 (5 ∷ (5 ∷ (4 ∷ (0 ∷ (4 ∷ [])))))) refl
+
+-- ---- three sinks at the root
+
+read-three : readNet textThree ≡ value threeAtRoot
+unfolding readNet numberThen rowIn begins lineIn field natural digitsValue lead distance span
+read-three = refl
+
+plan-three : planListing threeAtRoot ≡ listingThree
+unfolding planListing listingText digits showNat show worstSlack wireLength plan planBy tieRule minℤ maxℤ median medianPoint delay distance span
+plan-three = refl
+
+three-planned : (room : ℕ) → length listingThree ≤ room → planOf textThree room ≡ value (record { slack = negℤ (pos 40); wire = 0; bytes = listingThree })
+three-planned = planned-over textThree threeAtRoot read-three (negℤ (pos 40)) 0 listingThree (tree.marked .three-slack) (tree.marked .three-wire) plan-three (omega (arith, whole))
+
+three-judged : judgeOf textThree listingThree ≡ value (record { slack = negℤ (pos 40); wire = 0; best = negℤ (pos 40) })
+unfolding readListing numberThen rowIn begins lineIn field natural digitsValue lead worstSlack wireLength minℤ delay distance span kraftMaximum searchDown floorDiv
+three-judged = judged-over textThree threeAtRoot read-three listingThree
+    (record { slack = negℤ (pos 40); wire = 0; tree = record { parents = 5 ∷ (4 ∷ (5 ∷ (0 ∷ (4 ∷ [])))); points = point (pos 0) (pos 0) ∷ (point (pos 0) (pos 0) ∷ []) } }) refl
+
+-- ---- nets that are turned away
+
+turned-away : (net : List ℕ) (e : Refusal) → readNet net ≡ refused e → TurnedAway net e
+turned-away net e h = record { plan = plan-refused net e h; judge = judge-refused net e h }
 
 -- ---- the nets of request 1
 
@@ -132,6 +168,10 @@ marked = record {
   A-plan = A-planned;
   A-judge = A-judged;
   A-need = A-unreachable;
+  A-need-judge = A1-judged;
+  three-format = net-sound textThree threeAtRoot read-three;
+  three-plan = three-planned;
+  three-judge = three-judged;
   A-slack = judged _ (listed (pos 1) 32 (5 ∷ (5 ∷ (4 ∷ (0 ∷ (4 ∷ [])))))) refl;
   A-wire = judged _ (listed (pos 0) 31 (5 ∷ (5 ∷ (4 ∷ (0 ∷ (4 ∷ [])))))) refl;
   ring = judged _ (listed (pos 0) 32 (0 ∷ (4 ∷ (5 ∷ (5 ∷ (4 ∷ [])))))) refl;
@@ -142,12 +182,19 @@ marked = record {
   sink-format = net-sound textNearerSink nearerSink read-sink;
   sink-listing = plan-sink;
   sink-judge = sink-judged;
+  empty-net = turned-away _ (NotDue InNet 1) refl;
+  branch-0 = turned-away _ (OutOfRange InNet 2) refl;
+  need-minus-0 = turned-away _ (NotDue InNet 4) refl;
+  sinks-513 = turned-away _ (OutOfRange InNet 5) refl;
   across-near = net-sound (pinText "60000,0" "100000,0") _ refl;
-  across-plan = plan-refused (pinText "0,0" "100000,0") (FarPin 6) refl;
-  across-judge = judge-refused (pinText "0,0" "100000,0") (FarPin 6) refl;
-  across-range = plan-refused (pinText "0,0" "100001,0") (OutOfRange InNet 6) refl;
+  corner-near = net-sound (pinText "-100000,100000" "-100000,100000") _ refl;
+  across = turned-away (pinText "0,0" "100000,0") (FarPin 6) refl;
+  root-x-range = turned-away (pinText "100001,0" "100000,0") (OutOfRange InNet 1) refl;
+  root-y-range = turned-away (pinText "0,-100001" "0,-100000") (OutOfRange InNet 1) refl;
+  sink-x-range = turned-away (pinText "0,0" "100001,0") (OutOfRange InNet 6) refl;
+  sink-y-range = turned-away (pinText "0,100000" "0,100001") (OutOfRange InNet 6) refl;
   at-limit = net-sound (pinText "0,0" "40000,0") _ refl;
-  past-limit = plan-refused (pinText "0,0" "40001,0") (FarPin 6) refl;
+  past-limit = turned-away (pinText "0,0" "40001,0") (FarPin 6) refl;
   both-at-limit = net-sound (pinText "-10000,5000" "5000,-20000") _ refl;
-  both-past-limit = plan-refused (pinText "-10000,5000" "5000,-20001") (FarPin 6) refl;
+  both-past-limit = turned-away (pinText "-10000,5000" "5000,-20001") (FarPin 6) refl;
 }

@@ -1,10 +1,7 @@
 -- The listing of a plan is in the format of listings, for every net in range. Assumes nothing.
-use Prim.Native.Nat.{ℕ, suc, _+_, _≤_, _<_}
-use mathlib.Core.Path.{_≡_, subst}
-use mathlib.Core.Logic.{_⊎_, inl, inr}
+use Prim.Native.Nat.{suc, _+_}
+use mathlib.Core.Path.{subst}
 use native.Mathlib.Omega.{arith}
-use lib.ListN.{length, getD}
-use native.Mathlib.Decide.{decLe}
 use Rattle.quantities.specs.Inner.Linear.{whole}
 use Rattle.quantities.specs.Ranges.{Within, PointWithin}
 use Rattle.tree.specs.Net.{Net, size}
@@ -13,7 +10,6 @@ use Rattle.tree.specs.Limits.{positionLimit, needLimit, InRange}
 use Rattle.tree.specs.Measures.{worstSlack}
 use Rattle.tree.specs.Planning.{tieRule}
 use Rattle.tree.specs.Settling.{plan}
-use Rattle.tree.proofs.Laws.Trees.LegalTrees.{somewhere}
 use Rattle.tree.proofs.Laws.Settling.SlackKept.{place-node}
 use Rattle.tree.proofs.Laws.Planning.AnyTieRule.{plan-legal}
 use Rattle.tree.proofs.Laws.Measures.FiguresInRange.{plan-within, wire-range, slack-range}
@@ -44,14 +40,6 @@ module _ (N : Net) (R : InRange N) where
         points = λ i l. all-at (PointWithin positionLimit) (plan N .points) near i _ l;
       }
 
-  no-sink : (i : ℕ) → i < length (plan N .parents) → (getD (plan N .parents) i 0 ≡ 0) ⊎ (size N < getD (plan N .parents) i 0)
-  no-sink i h = go (decLe (suc (size N)) (getD (plan N .parents) i 0)) (decLe 1 (getD (plan N .parents) i 0))
-    where
-      go : Dec (suc (size N) ≤ getD (plan N .parents) i 0) → Dec (1 ≤ getD (plan N .parents) i 0) → (getD (plan N .parents) i 0 ≡ 0) ⊎ (size N < getD (plan N .parents) i 0)
-      go (yes p) q = inr p
-      go (no p) (yes q) = absurd (somewhere (plan N .parents) i h (planned-legal .shape .sink (getD (plan N .parents) i 0) q (omega arith)))
-      go (no p) (no q) = inl (omega arith)
-
   pub plan-listing : ListingInFormat (size N) (planListing N) (planned N)
   unfolding planListing
-  plan-listing = listing-in-format (size N) (planned N) plan-in-range no-sink
+  plan-listing = listing-in-format (size N) (planned N) plan-in-range

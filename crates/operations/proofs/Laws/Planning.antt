@@ -14,8 +14,8 @@ use Rattle.tree.specs.Net.{Net, size}
 use Rattle.tree.specs.Measures.{worstSlack}
 use Rattle.tree.specs.Settling.{plan}
 use Rattle.tree.specs.Limits.{InRange}
-use Rattle.formats.specs.NetText.{readNet}
-use Rattle.formats.specs.Reading.{value, refused}
+use Rattle.formats.specs.Reading.Nets.{readNet}
+use Rattle.formats.specs.Outcome.{value, refused}
 use Rattle.formats.specs.ListingText.{Listing, listingText, ListingInRange}
 use Rattle.formats.specs.Inner.Writing.{over, Puts}
 use Rattle.formats.specs.declared.refusal.Refusal.{Refusal}

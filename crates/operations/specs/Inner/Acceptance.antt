@@ -4,7 +4,7 @@ use mathlib.Core.List.{List}
 use lib.ListN.{length}
 use lib.IntN.{ℤ}
 use Rattle.tree.specs.Net.{Net}
-use Rattle.formats.specs.Reading.{Outcome, value, refused, andThen}
+use Rattle.formats.specs.Outcome.{Outcome, value, refused, andThen}
 use Rattle.formats.specs.ListingText.{Listing}
 use Rattle.formats.specs.Inner.ListingReader.{listingHeld}
 use Rattle.operations.specs.Accepting.{acceptListing}

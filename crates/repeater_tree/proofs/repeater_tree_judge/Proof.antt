@@ -14,14 +14,14 @@ judge-requires c κs = search needs
 enum-known-worst : tie.Need-enum-known-worst
 enum-known-worst c = search needs
 
-value-requires : tie.Need-value-requires
-value-requires c κs = search needs
+femtoseconds-requires : tie.Need-femtoseconds-requires
+femtoseconds-requires c κs = search needs
 
-value-requires-2 : tie.Need-value-requires-2
-value-requires-2 c κs = search needs
+micrometres-requires : tie.Need-micrometres-requires
+micrometres-requires c κs = search needs
 
-value-requires-3 : tie.Need-value-requires-3
-value-requires-3 c κs = search needs
+femtoseconds-requires-2 : tie.Need-femtoseconds-requires-2
+femtoseconds-requires-2 c κs = search needs
 
 enum-known-refusal : tie.Need-enum-known-refusal
 enum-known-refusal c = search needs
@@ -31,9 +31,9 @@ tell-requires c κs = search needs
 
 returns : tie.Need-returns
 returns c =
-    let slack = c .before .before .value in
-    let wire = c .before .value2 in
-    let best = c .value3 in
+    let slack = c .before .before .femtoseconds in
+    let wire = c .before .micrometres in
+    let best = c .femtoseconds2 in
     (λ i. record {
       number = 0;
       text = 0;
@@ -56,9 +56,9 @@ repeater-tree-judge-spec =
     (tie.spec
     judge-requires
     enum-known-worst
-    value-requires
-    value-requires-2
-    value-requires-3
+    femtoseconds-requires
+    micrometres-requires
+    femtoseconds-requires-2
     enum-known-refusal
     tell-requires
     returns

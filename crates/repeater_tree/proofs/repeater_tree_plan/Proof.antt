@@ -14,11 +14,11 @@ plan-requires c κs = search needs
 enum-known-worst : tie.Need-enum-known-worst
 enum-known-worst c = search needs
 
-value-requires : tie.Need-value-requires
-value-requires c κs = search needs
+femtoseconds-requires : tie.Need-femtoseconds-requires
+femtoseconds-requires c κs = search needs
 
-value-requires-2 : tie.Need-value-requires-2
-value-requires-2 c κs = search needs
+micrometres-requires : tie.Need-micrometres-requires
+micrometres-requires c κs = search needs
 
 enum-known-refusal : tie.Need-enum-known-refusal
 enum-known-refusal c = search needs
@@ -31,8 +31,8 @@ same-length c = search needs
 
 returns : tie.Need-returns
 returns c =
-    let slack = c .before .value in
-    let wire = c .value2 in
+    let slack = c .before .femtoseconds in
+    let wire = c .micrometres in
     let says = c .before .before .before .before .before .before .before .plan .ensures in (
       (λ i. record {
         number = 0;
@@ -64,8 +64,8 @@ repeater-tree-plan-spec =
     (tie.spec
     plan-requires
     enum-known-worst
-    value-requires
-    value-requires-2
+    femtoseconds-requires
+    micrometres-requires
     enum-known-refusal
     tell-requires
     same-length

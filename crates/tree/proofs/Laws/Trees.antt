@@ -8,6 +8,7 @@ pub mod StepsToRoot
 pub mod LegalTrees
 pub mod Upward
 pub mod Defects
+pub mod NamedDefects
 pub mod Counting
 pub mod Linking
 pub mod Descent

@@ -1,8 +1,9 @@
 //! signatures [ROOT]
 //!
-//! Compares the functions, the limits and the version of the C header and of
-//! the Rust wrapper with the Rattle source of the repository at ROOT. Exits
-//! with 1 on any difference.
+//! Compares the functions, the limits, the version and the refusals' words of
+//! the C header and of the Rust wrapper with the Rattle source of the repository
+//! at ROOT, and the places where that source takes a length's number with the
+//! list of them. Exits with 1 on any difference.
 
 use second_tool::signatures::{compare, Sources};
 use std::path::PathBuf;
@@ -24,10 +25,12 @@ fn main() -> ExitCode {
         println!("DIFFERENT {difference}");
     }
     println!(
-        "signatures: {} functions, {} limits, version {}; {} differences",
+        "signatures: {} functions, {} limits, {} wordings, version {}, {} places with a length's number; {} differences",
         report.functions,
         report.limits,
+        report.wordings,
         report.version,
+        report.places,
         report.differences.len()
     );
     match report.differences.len() {

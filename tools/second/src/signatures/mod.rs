@@ -1,15 +1,20 @@
 //! What the header and the Rust wrapper declare against the Rattle source: the
-//! functions of the archive, the limits, and the version. The linker would join
-//! them whatever they say.
+//! functions of the archive, the limits, the version and the refusals' plain
+//! words. The linker would join them whatever they say. And where the Rattle
+//! source takes a length's number.
 
 mod functions;
+mod lengths;
 mod numbers;
 #[cfg(test)]
 mod tests;
+mod wording;
 mod words;
 
 use functions::Function;
+use lengths::Code;
 use numbers::Numbers;
+use std::collections::BTreeSet;
 use std::fs;
 use std::io::Result;
 use std::path::Path;
@@ -18,6 +23,9 @@ const LIBRARY: &str = "crates/repeater_tree/src/lib.rt";
 const HEADER: &str = "callers/c/repeater_tree.h";
 const CALLS: &str = "callers/rust/src/calls.rs";
 const WRAPPER: &str = "callers/rust/src/lib.rs";
+const REFUSALS: &str = "callers/rust/src/refusal.rs";
+const TOLD: &str = "crates/formats/src/refusal.rt";
+const WORDS: &str = "crates/console/src/words.rt";
 const MANIFEST: &str = "callers/rust/Cargo.toml";
 const LIMITS: &str = "crates/*/src/limits.rt";
 
@@ -34,8 +42,12 @@ pub struct Sources {
     calls: String,
     wrapper: String,
     manifest: String,
+    refusals: String,
+    told: String,
+    words: String,
     /// One for each crate that has such a file.
     limits: Vec<String>,
+    code: Code,
 }
 
 impl Sources {
@@ -54,16 +66,40 @@ impl Sources {
             calls: text(CALLS)?,
             wrapper: text(WRAPPER)?,
             manifest: text(MANIFEST)?,
+            refusals: text(REFUSALS)?,
+            told: text(TOLD)?,
+            words: text(WORDS)?,
             limits,
+            code: code(root)?,
         })
     }
+}
+
+/// crates/*/src/*.rt
+fn code(root: &Path) -> Result<Code> {
+    let mut found = Code::new();
+    for entry in fs::read_dir(root.join("crates"))? {
+        let folder = entry?.path().join("src");
+        for file in fs::read_dir(folder)? {
+            let path = file?.path();
+            if path.extension().is_some_and(|e| e == "rt") {
+                let name = path.strip_prefix(root).unwrap_or(&path);
+                let name = name.display().to_string();
+                found.insert(name, fs::read_to_string(&path)?);
+            }
+        }
+    }
+    Ok(found)
 }
 
 #[derive(Default)]
 pub struct Report {
     pub functions: usize,
     pub limits: usize,
+    pub wordings: usize,
     pub version: String,
+    /// Where a length's number is taken.
+    pub places: usize,
     pub differences: Vec<String>,
 }
 
@@ -72,6 +108,11 @@ pub fn compare(sources: &Sources) -> Report {
     compare_functions(sources, &mut report);
     compare_limits(sources, &mut report);
     compare_version(sources, &mut report);
+    compare_wording(sources, &mut report);
+    report.places = lengths::listed();
+    report
+        .differences
+        .extend(lengths::differences(&sources.code));
     report
 }
 
@@ -142,6 +183,25 @@ fn compare_version(sources: &Sources, report: &mut Report) {
         report.tell(format!(
             "{HEADER}: version {version}, {MANIFEST} has {package}"
         ));
+    }
+}
+
+fn compare_wording(sources: &Sources, report: &mut Report) {
+    let programs = wording::of_rattle(&sources.words, &sources.told);
+    report.wordings = programs.len();
+    let header = wording::of_header(&sources.header);
+    let wrapper = wording::of_rust(&sources.refusals);
+    for (file, other) in [(HEADER, header), (REFUSALS, wrapper)] {
+        let rows: BTreeSet<_> = programs.keys().chain(other.keys()).collect();
+        for row in rows {
+            let (due, found) = (programs.get(row), other.get(row));
+            if due != found {
+                report.tell(format!(
+                    "{file}: refusal {} is {found:?}, {WORDS} has {due:?}",
+                    row.0
+                ));
+            }
+        }
     }
 }
 

@@ -35,10 +35,34 @@ fn manifest(s: &mut Sources) -> &mut String {
     &mut s.manifest
 }
 
+fn refusals(s: &mut Sources) -> &mut String {
+    &mut s.refusals
+}
+
+fn words(s: &mut Sources) -> &mut String {
+    &mut s.words
+}
+
 /// The file of limits that has the pin limit.
 fn limits(s: &mut Sources) -> &mut String {
     let all = &mut s.limits;
     all.iter_mut().find(|l| l.contains("PIN_LIMIT: ")).unwrap()
+}
+
+const WRITER: &str = "crates/formats/src/write_listing.rt";
+const PRODUCT: &str = "crates/quantities/src/wire_factor.rt";
+const MEASURES: &str = "crates/tree/src/measure.rt";
+
+fn writer(s: &mut Sources) -> &mut String {
+    s.code.get_mut(WRITER).unwrap()
+}
+
+fn product(s: &mut Sources) -> &mut String {
+    s.code.get_mut(PRODUCT).unwrap()
+}
+
+fn measures(s: &mut Sources) -> &mut String {
+    s.code.get_mut(MEASURES).unwrap()
 }
 
 /// Each planted difference is told, in these words.
@@ -53,6 +77,35 @@ fn the_sources_agree() {
     assert_eq!(report.differences, [""; 0]);
     assert_eq!(report.functions, 2);
     assert!(report.limits >= 4);
+    assert_eq!(report.places, 6);
+    // one for each refusal, two for the wrong number of children
+    assert_eq!(report.wordings, 14);
+}
+
+#[test]
+fn other_words_are_told() {
+    told(
+        planted(header, "the parent is a sink", "a sink is a parent"),
+        "refusal 8 is Some(\"a sink is a parent\")",
+    );
+    told(
+        planted(
+            refusals,
+            "the root has not exactly one child",
+            "the root is bare",
+        ),
+        "callers/rust/src/refusal.rs: refusal 9 is Some(\"the root is bare\")",
+    );
+    let twice = planted(words, "a number is out of range", "a number is too large");
+    assert_eq!(twice.len(), 2, "{twice:?}");
+    told(
+        planted(refusals, "(13, _) =>", "(14, _) =>"),
+        "refusal 13 is None",
+    );
+    told(
+        planted(header, "case REPEATER_TREE_FAR_PIN:", "case 13:"),
+        "refusal 13 is None",
+    );
 }
 
 #[test]
@@ -224,5 +277,54 @@ fn another_version_is_told() {
     told(
         planted(manifest, "version = \"0", "version = \"9"),
         "Cargo.toml has 9.",
+    );
+}
+
+/// In a file that is not listed, as a path, once more, and no longer.
+#[test]
+fn another_place_that_takes_a_length_is_told() {
+    let other = format!("{MEASURES}: a length's number is taken 1 times, 0 listed");
+    for taken in ["wire.micrometres()", "Length::micrometres(wire)"] {
+        told(planted(measures, "Time::of(0)", taken), &other);
+    }
+    told(
+        planted(writer, "n as i64", "wire.micrometres() as i64"),
+        &format!("{WRITER}: a length's number is taken 2 times, 1 listed"),
+    );
+    told(
+        planted(writer, "wire.micrometres()", "0"),
+        &format!("{WRITER}: a length's number is taken 0 times, 1 listed"),
+    );
+}
+
+#[test]
+fn a_listed_file_that_is_gone_is_told() {
+    let mut sources = sources();
+    sources.code.remove(WRITER);
+    told(
+        compare(&sources).differences,
+        &format!("{WRITER}: is listed and not there"),
+    );
+}
+
+/// In the product without its factor, and in a file that is listed.
+#[test]
+fn a_time_made_of_a_length_is_told() {
+    let made = "a time is made of a length's number";
+    told(
+        planted(
+            product,
+            "let product = self.0 * distance(p, q).micrometres();\n        Time::of(product as i64)",
+            "Time::of((distance(p, q).micrometres()) as i64)",
+        ),
+        &format!("{PRODUCT}: {made}"),
+    );
+    told(
+        planted(
+            writer,
+            "wire.micrometres() as i64",
+            "Time::of(wire.micrometres() as i64).femtoseconds()",
+        ),
+        &format!("{WRITER}: {made}"),
     );
 }

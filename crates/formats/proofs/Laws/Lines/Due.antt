@@ -12,9 +12,10 @@ use borrow.Author.Tests.{leb-true, le-leb}
 use lib.IntN.{ℤ, pos, negsuc, natAbs}
 use lib.Signed.{leZ, _≤ℤ_}
 use Rattle.quantities.specs.Inner.Linear.{whole, natAbs-is, neg-up, neg-dn}
-use Rattle.formats.specs.Decimal.{signed}
-use Rattle.formats.specs.Line.{Row, row, misspelled, lineIn}
-use Rattle.formats.specs.Reading.{inside, allInside, value, refused, ranged, due, rangedAfter, dueFor}
+use Rattle.formats.specs.Reading.Numbers.{signed}
+use Rattle.formats.specs.Reading.Rows.{Row, row, misspelled, lineIn}
+use Rattle.formats.specs.Outcome.{value, refused}
+use Rattle.formats.specs.Reading.Lines.{inside, allInside, ranged, due, rangedAfter, dueFor}
 use Rattle.formats.specs.Inner.Scanning.{magnitudeCap, held, heldAll, lineAt}
 use Rattle.formats.specs.Inner.Ranging.{Narrow, listed, others, Passed, Failed, Ranged}
 use Rattle.formats.specs.declared.ranges.Range.{Range}

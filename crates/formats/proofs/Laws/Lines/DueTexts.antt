@@ -11,8 +11,12 @@ use lib.IntN.{ℤ, pos, negsuc, natAbs}
 use lib.Signed.{leZ, _≤ℤ_}
 use native.Mathlib.Omega.{arith}
 use Rattle.quantities.specs.Inner.Linear.{whole, leZ-is}
-use Rattle.formats.specs.Line.{lineText, Row, row, misspelled, lineIn}
-use Rattle.formats.specs.Reading.{inside, allInside, Outcome, value, refused, andThen, Read, at, ranged, due, dueNumber, dueNatural, rangedAfter, dueFor, ended}
+use Rattle.formats.specs.Line.{lineText}
+use Rattle.formats.specs.Reading.Rows.{Row, row, misspelled, lineIn}
+use Rattle.formats.specs.Outcome.{Outcome, value, refused, andThen}
+use Rattle.formats.specs.Ranges.{at}
+use Rattle.formats.specs.Reading.Lines.{inside, allInside, Read, ranged, due, dueNumber, dueNatural, rangedAfter, dueFor, ended}
+use Rattle.formats.specs.Faults.{InRanges}
 use Rattle.formats.specs.declared.ranges.Range.{Range}
 use Rattle.formats.specs.declared.refusal.Text.{Text}
 use Rattle.formats.specs.declared.refusal.Refusal.{Refusal}
@@ -24,13 +28,6 @@ use Rattle.formats.proofs.Laws.Lines.Outcomes.{then-then, then-value}
 
 abbrev pub In : Range → ℤ → Type 0
 In g z = (g .from ≤ℤ z) × (z ≤ℤ g .to)
-
--- each number in the range at its place
-abbrev pub Inside : List Range → List ℤ → Type 0
-Inside [] [] = Unit {0}
-Inside [] (z ∷ zs) = ⊥
-Inside (g ∷ gs) [] = ⊥
-Inside (g ∷ gs) (z ∷ zs) = In g z × Inside gs zs
 
 -- P at every list of numbers in range, one by one
 abbrev pub Every : List Range → (List ℤ → Type 0) → Type 0
@@ -50,7 +47,7 @@ every-at (g ∷ gs) (z ∷ zs) P n e f =
     let b : (leZ (g .from) z ≡ true) × (leZ z (g .to) ≡ true) = and-true (leZ (g .from) z) (leZ z (g .to)) (a .0) in
     every-at gs zs (λ ys. P (z ∷ ys)) (omega arith) (a .1) (f z (omega (arith, whole), omega (arith, whole)))
 
-inside-all : (gs : List Range) (zs : List ℤ) → Inside gs zs → (length zs ≡ length gs) × (allInside gs zs ≡ true)
+pub inside-all : (gs : List Range) (zs : List ℤ) → InRanges gs zs → (length zs ≡ length gs) × (allInside gs zs ≡ true)
 inside-all [] [] h = (refl, refl)
 inside-all [] (z ∷ zs) h = absurd h
 inside-all (g ∷ gs) [] h = absurd h
@@ -110,7 +107,7 @@ module _ {A C : Type 0} (t : Text) (l : ℕ) (key : List ℕ) (gs : List Range) 
 -- ---- a line of one number
 
 -- a number that is at least 0 is a natural number
-natural-of : (z : ℤ) → pos 0 ≤ℤ z → pos (natAbs z) ≡ z
+pub natural-of : (z : ℤ) → pos 0 ≤ℤ z → pos (natAbs z) ≡ z
 natural-of (pos n) h = refl
 natural-of (negsuc n) h = absurd (let w : ⊥ = omega (arith, whole) in w)
 
@@ -129,12 +126,12 @@ module _ {A C : Type 0} (t : Text) (l : ℕ) (key : List ℕ) (g : Range) (s : L
 -- ---- such lines are read
 
 module _ (t : Text) (l : ℕ) (key : List ℕ) (gs : List Range) where
-  pub due-complete : (zs : List ℤ) (r : List ℕ) → 1 ≤ length zs → Inside gs zs → due t l key gs (lineText key zs ++ r) ≡ value (record { got = zs; rest = r })
+  pub due-complete : (zs : List ℤ) (r : List ℕ) → 1 ≤ length zs → InRanges gs zs → due t l key gs (lineText key zs ++ r) ≡ value (record { got = zs; rest = r })
   due-complete zs r p h =
       let w = inside-all gs zs h in
       rw (← w .0, line-complete key zs r p, ranged, w .1, drop-append-seam)
 
-  pub for-complete : (k : ℕ) (zs : List ℤ) (r : List ℕ) → Inside gs zs → dueFor t l key k gs (lineText key (pos k ∷ zs) ++ r) ≡ value (record { got = zs; rest = r })
+  pub for-complete : (k : ℕ) (zs : List ℤ) (r : List ℕ) → InRanges gs zs → dueFor t l key k gs (lineText key (pos k ∷ zs) ++ r) ≡ value (record { got = zs; rest = r })
   for-complete k zs r h =
       let w = inside-all gs zs h in
       let p : pos k ≤ℤ pos k = omega (arith, whole) in

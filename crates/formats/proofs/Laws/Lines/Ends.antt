@@ -5,7 +5,8 @@ use mathlib.Core.List.{List, [], _∷_, _++_}
 use lib.IntN.{pos}
 use lib.Signed.{_≤ℤ_}
 use Rattle.formats.specs.Line.{lineText}
-use Rattle.formats.specs.Reading.{Outcome, value, refused, andThen, dueNumber, dueNatural, ended}
+use Rattle.formats.specs.Outcome.{Outcome, value, refused, andThen}
+use Rattle.formats.specs.Reading.Lines.{dueNumber, dueNatural, ended}
 use Rattle.formats.specs.declared.ranges.Range.{Range}
 use Rattle.formats.specs.declared.refusal.Text.{Text}
 use Rattle.formats.specs.declared.refusal.Refusal.{Refusal}

@@ -10,7 +10,7 @@ use native.Mathlib.Omega.{arith}
 use native.Mathlib.Numerals.{add-one}
 use native.Mathlib.Nat.{add-zero}
 use borrow.Author.Tests.{eq-eqb, ne-eqb}
-use Rattle.formats.specs.Line.{begins}
+use Rattle.formats.specs.Reading.Rows.{begins}
 
 -- the key from i on stands at at + i exactly where the whole key stands at at
 pub record Same (key s : List ℕ) (at i : ℕ) : Type 0 where

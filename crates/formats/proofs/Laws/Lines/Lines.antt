@@ -11,9 +11,11 @@ use lib.Dec.{eqb}
 use lib.IntN.{ℤ, natAbs}
 use native.Mathlib.Omega.{arith}
 use borrow.Author.Tests.{eq-eqb, eqb-true}
-use Rattle.formats.specs.Decimal.{show, isDigit, Field, spelt, misspelt, field, signed, isNegative}
+use Rattle.formats.specs.Decimal.{show}
+use Rattle.formats.specs.Reading.Numbers.{isDigit, Field, spelt, misspelt, field, signed, isNegative}
 use Rattle.formats.specs.Bytes.{endByte, comma}
-use Rattle.formats.specs.Line.{rowText, lineText, stopBy, numberThen, Row, row, misspelled, prepend, last, first, rowIn, begins, lineIn}
+use Rattle.formats.specs.Line.{rowText, lineText}
+use Rattle.formats.specs.Reading.Rows.{stopBy, numberThen, Row, row, misspelled, prepend, last, first, rowIn, begins, lineIn}
 use Rattle.formats.proofs.Laws.Numbers.Decimal.{lt-or-le, field-sound, field-complete, signed-abs, show-length}
 
 -- ---- a key

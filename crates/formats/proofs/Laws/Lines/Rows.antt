@@ -9,9 +9,9 @@ use lib.Dec.{ltb, eqb}
 use lib.IntN.{ℤ}
 use native.Mathlib.Omega.{arith}
 use borrow.Author.Tests.{lt-ltb, eqb-false}
-use Rattle.formats.specs.Decimal.{Field, spelt, misspelt, isDigit, lead, value, well, natural, signing, field, signed}
+use Rattle.formats.specs.Reading.Numbers.{Field, spelt, misspelt, isDigit, lead, value, well, natural, signing, field, signed}
 use Rattle.formats.specs.Bytes.{endByte, comma}
-use Rattle.formats.specs.Line.{stopBy, numberThen, Row, row, misspelled, prepend, after, last, first, rowIn, begins, lineIn}
+use Rattle.formats.specs.Reading.Rows.{stopBy, numberThen, Row, row, misspelled, prepend, after, last, first, rowIn, begins, lineIn}
 use Rattle.formats.specs.Inner.Scanning.{heldBy, held, scannedAt, heldAll, lineAt}
 use Rattle.formats.specs.declared.number.Number.{Number}
 use Rattle.formats.specs.declared.scan.Scanned.the-variants.{Value, Misspelt}

@@ -9,8 +9,10 @@ use native.Mathlib.Omega.{arith}
 use Rattle.quantities.specs.declared.point.Point.{Point}
 use Rattle.quantities.specs.Ranges.{Within, PointWithin}
 use Rattle.tree.specs.Limits.{positionLimit}
-use Rattle.formats.specs.Line.{lineIn}
-use Rattle.formats.specs.Reading.{around, inside, allInside, value, refused, due, dueNumber}
+use Rattle.formats.specs.Reading.Rows.{lineIn}
+use Rattle.formats.specs.Outcome.{value, refused}
+use Rattle.formats.specs.Ranges.{around}
+use Rattle.formats.specs.Reading.Lines.{inside, allInside, due, dueNumber}
 use Rattle.formats.specs.Inner.Scanning.{lineAt}
 use Rattle.formats.specs.Inner.Ranging.{Passed, Failed, listed}
 use Rattle.formats.specs.Inner.Readers.{NumberTaken, NumberSays}

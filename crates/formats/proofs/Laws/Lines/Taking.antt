@@ -4,7 +4,7 @@ use mathlib.Core.Path.{_≡_, refl}
 use mathlib.Core.List.{List}
 use lib.ListN.{drop}
 use native.Mathlib.Omega.{arith}
-use Rattle.formats.specs.Line.{Row, row, misspelled, lineIn}
+use Rattle.formats.specs.Reading.Rows.{Row, row, misspelled, lineIn}
 use Rattle.formats.specs.Inner.Scanning.{heldAll, lineAt, takenAt}
 use Rattle.formats.specs.declared.scan.Numbers.{Numbers}
 use Rattle.formats.specs.declared.scan.Line.the-variants.{Spelt, Misspelled}

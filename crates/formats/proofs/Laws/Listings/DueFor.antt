@@ -12,9 +12,11 @@ use Rattle.formats.specs.declared.ranges.Range.{Range}
 use Rattle.formats.specs.declared.refusal.Text.the-variants.{InListing}
 use Rattle.formats.specs.declared.refusal.Refusal.{Refusal}
 use Rattle.formats.specs.declared.refusal.Refusal.the-variants.{NotDue, OutOfRange, SinkParent}
-use Rattle.formats.specs.Line.{lineIn}
-use Rattle.formats.specs.Reading.{inside, Outcome, value, refused, andThen, Read, reading, dueFor}
-use Rattle.formats.specs.ListingText.{parentRange, isSink, Vertex, vertexOf, noSink, dueVertex}
+use Rattle.formats.specs.Reading.Rows.{lineIn}
+use Rattle.formats.specs.Outcome.{Outcome, value, refused, andThen}
+use Rattle.formats.specs.Reading.Lines.{inside, Read, reading, dueFor}
+use Rattle.formats.specs.ListingText.{parentRange}
+use Rattle.formats.specs.Reading.Listings.{isSink, Vertex, vertexOf, noSink, dueVertex}
 use Rattle.formats.specs.Inner.Scanning.{magnitudeCap, lineAt, takenAt}
 use Rattle.formats.specs.Inner.Ranging.{Tested, Passed, Failed, others}
 use Rattle.formats.specs.Inner.Readers.{ReadTo}

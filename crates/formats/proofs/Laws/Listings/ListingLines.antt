@@ -19,9 +19,11 @@ use Rattle.formats.specs.declared.refusal.Text.{Text}
 use Rattle.formats.specs.declared.refusal.Text.the-variants.{InListing}
 use Rattle.formats.specs.declared.refusal.Refusal.{Refusal}
 use Rattle.formats.specs.declared.refusal.Refusal.the-variants.{TooLong, BytesFollow, OtherCount}
-use Rattle.formats.specs.Reading.{upTo, fromZero, Outcome, value, refused, andThen, Read, reading, dueNumber, ended}
+use Rattle.formats.specs.Outcome.{Outcome, value, refused, andThen}
+use Rattle.formats.specs.Ranges.{upTo, fromZero}
+use Rattle.formats.specs.Reading.Lines.{Read, reading, dueNumber, ended}
 use Rattle.formats.specs.NetText.{wireKey, sinksKey}
-use Rattle.formats.specs.ListingText.{Stated, dueSlack, sameOnly, Vertex, dueLeaf, readVertices, parentsIn, pointsIn, readStated, readTree, readListing}
+use Rattle.formats.specs.Reading.Listings.{Stated, dueSlack, sameOnly, Vertex, dueLeaf, readVertices, parentsIn, pointsIn, readStated, readTree, readListing}
 use Rattle.formats.specs.Inner.ListingReader.{StatedFrom, fromTotal, fromSame, parentsFrom, vertexHeld, verticesFrom, leavesIn, nodesIn, treeOutcome}
 use Rattle.formats.specs.declared.reader.Place.{Place}
 use Rattle.formats.specs.declared.read_listing.StatedLines.{StatedLines}

@@ -20,15 +20,19 @@ use Rattle.tree.specs.Limits.{positionLimit, sinkLimit, slackLimit, wireLimit}
 use Rattle.tree.proofs.Laws.Lists.Tables.{table-length}
 use Rattle.formats.specs.declared.refusal.Text.the-variants.{InListing}
 use Rattle.formats.specs.declared.refusal.Refusal.{Refusal}
-use Rattle.formats.specs.declared.refusal.Refusal.the-variants.{TooLong, OtherCount, SinkParent}
+use Rattle.formats.specs.declared.refusal.Refusal.the-variants.{TooLong, OtherCount, SinkParent, NotDue, OutOfRange, BytesFollow}
 use Rattle.formats.specs.Limits.{listingLengthLimit}
 use Rattle.formats.specs.Line.{lineText}
-use Rattle.formats.specs.Reading.{Outcome, value, refused, Read, around, upTo, fromZero, dueFor}
+use Rattle.formats.specs.Outcome.{Outcome, value, refused}
+use Rattle.formats.specs.Ranges.{around, upTo, fromZero}
+use Rattle.formats.specs.Reading.Lines.{Read, dueFor}
 use Rattle.formats.specs.NetText.{wireKey, sinksKey, positionRanges}
-use Rattle.formats.specs.ListingText.{Listing, slackKey, leafKey, nodeKey, nodePoint, leafText, nodeText, linesText, listingText, ListingInRange, ListingInFormat, ListingRefusal, too-long, not-due, out-of-range, bytes-follow, other-count, parent-sink, Stated, sameOnly, dueSame, readStated, parentRange, Vertex, vertexOf, noSink, dueLeaf, dueNode, readVertices, parentsIn, pointsIn, readTree, readListingLines, readListing}
+use Rattle.formats.specs.ListingText.{Listing, slackKey, leafKey, nodeKey, nodePoint, leafText, nodeText, linesText, listingText, ListingInRange, ListingInFormat, NoSinkParent, parentRange}
+use Rattle.formats.specs.Reading.Listings.{Stated, sameOnly, dueSame, readStated, Vertex, vertexOf, noSink, dueLeaf, dueNode, readVertices, parentsIn, pointsIn, readTree, readListingLines, readListing}
 use Rattle.formats.proofs.Laws.Lines.Outcomes.{then-then, then-value}
 use Rattle.formats.proofs.Laws.Lines.Elements.{All, all-at, all-of, all-append, all-map, table-of, table-append, all-table}
 use Rattle.formats.proofs.Laws.Lines.DueTexts.{In, LineRefusal, for-cases, for-complete, number-complete, natural-complete}
+use Rattle.formats.proofs.Laws.Listings.OneText.{listing-prefix}
 use Rattle.formats.proofs.Laws.Lines.Ends.{Ends, stops, goes, ends-value, ends-refused, ends-then, number-ends, natural-ends, ended-ends}
 
 -- ---- the line of a vertex
@@ -197,6 +201,15 @@ pub record TreeIn (n : ℕ) (T : Tree) : Type 0 where
   parents : All (ParentIn n) (T .parents)
   points : All (PointWithin positionLimit) (T .points)
 
+-- the refusals of a listing of a net of n sinks: 2 and 3 on one of the 2n + 2 lines, 4 on the line after the last, 8 on the line of a vertex
+pub data ListingRefusal (n : ℕ) : Refusal → Type 0 where
+  too-long : ListingRefusal n (TooLong InListing)
+  not-due : {l : ℕ} → 1 ≤ l → l ≤ 2 * n + 2 → ListingRefusal n (NotDue InListing l)
+  out-of-range : {l : ℕ} → 1 ≤ l → l ≤ 2 * n + 2 → ListingRefusal n (OutOfRange InListing l)
+  bytes-follow : ListingRefusal n (BytesFollow InListing (2 * n + 3))
+  other-count : ListingRefusal n OtherCount
+  parent-sink : {l : ℕ} → 4 ≤ l → l ≤ 2 * n + 2 → ListingRefusal n (SinkParent l)
+
 vertex-refusal : (n : ℕ) (e : Refusal) → VerticesRefusal 4 (2 * n + 3) e → ListingRefusal n e
 vertex-refusal n e b = go (b .line) (b .from) (b .below) (b .is)
   where
@@ -329,51 +342,57 @@ stated-complete n a r h =
 
 -- ---- the whole text
 
-lines-end : (n : ℕ) (s : List ℕ) → length s ≤ listingLengthLimit → Ends (λ e. 1 ≤ n → ListingRefusal n e) (ListingInFormat n s) (readListingLines n s)
+-- in the format, and no parent is a sink
+abbrev Taken : ℕ → List ℕ → Listing → Type 0
+Taken n s G = ListingInFormat n s G × NoSinkParent n (G .tree .parents)
+
+lines-end : (n : ℕ) (s : List ℕ) → length s ≤ listingLengthLimit → Ends (λ e. 1 ≤ n → ListingRefusal n e) (Taken n s) (readListingLines n s)
 unfolding listingText
 lines-end n s short =
     ends-then _ (stated-ends n s) (λ e b. b) λ stated h.
     ends-then _ (tree-ends n (stated .rest) (h .0 .sinks .0)) (λ e b some. b) λ T g.
-    goes (record {
-      spelled = h .1 ∙ ap (statedText n (stated .got)) (g .0);
-      in-range = record {
-        slack = h .0 .slack;
-        wire = h .0 .wire;
-        sinks = h .0 .sinks;
-        parents-all = g .1 .parents-all;
-        points-all = g .1 .points-all;
-        parents = λ i b. all-at (ParentIn n) (T .parents) (g .1 .parents) i 0 b .0;
-        points = λ i b. all-at (PointWithin positionLimit) (T .points) (g .1 .points) i origin b;
-      };
-      short = short;
-      no-sink = λ i b. all-at (ParentIn n) (T .parents) (g .1 .parents) i 0 b .1;
-    })
+    goes (
+      record {
+        spelled = h .1 ∙ ap (statedText n (stated .got)) (g .0);
+        in-range = record {
+          slack = h .0 .slack;
+          wire = h .0 .wire;
+          sinks = h .0 .sinks;
+          parents-all = g .1 .parents-all;
+          points-all = g .1 .points-all;
+          parents = λ i b. all-at (ParentIn n) (T .parents) (g .1 .parents) i 0 b .0;
+          points = λ i b. all-at (PointWithin positionLimit) (T .points) (g .1 .points) i origin b;
+        };
+        short = short;
+      },
+      λ i b. all-at (ParentIn n) (T .parents) (g .1 .parents) i 0 b .1,
+    )
 
 -- "length first"
-listing-ends : (n : ℕ) (s : List ℕ) → Ends (λ e. 1 ≤ n → ListingRefusal n e) (ListingInFormat n s) (readListing n s)
+listing-ends : (n : ℕ) (s : List ℕ) → Ends (λ e. 1 ≤ n → ListingRefusal n e) (Taken n s) (readListing n s)
 unfolding readListing
 listing-ends n s = go (ltb listingLengthLimit (length s)) refl
   where
     go : (t : Bool) → ltb listingLengthLimit (length s) ≡ t
-        → Ends (λ e. 1 ≤ n → ListingRefusal n e) (ListingInFormat n s) (elim t [ true ↦ refused (TooLong InListing) | false ↦ readListingLines n s ])
+        → Ends (λ e. 1 ≤ n → ListingRefusal n e) (Taken n s) (elim t [ true ↦ refused (TooLong InListing) | false ↦ readListingLines n s ])
     go true q = stops (λ some. too-long)
     go false q = lines-end n s (ltb-false listingLengthLimit (length s) q)
 
-pub listing-sound : (n : ℕ) (s : List ℕ) (G : Listing) → readListing n s ≡ value G → ListingInFormat n s G
+pub listing-sound : (n : ℕ) (s : List ℕ) (G : Listing) → readListing n s ≡ value G → ListingInFormat n s G × NoSinkParent n (G .tree .parents)
 listing-sound n s G e = ends-value (listing-ends n s) e
 
 pub listing-refused : (n : ℕ) (e : Refusal) (s : List ℕ) → 1 ≤ n → readListing n s ≡ refused e → ListingRefusal n e
 listing-refused n e s some h = ends-refused (listing-ends n s) h some
 
-pub listing-complete : (n : ℕ) (s : List ℕ) (G : Listing) → ListingInFormat n s G → readListing n s ≡ value G
+pub listing-complete : (n : ℕ) (s : List ℕ) (G : Listing) → ListingInFormat n s G → NoSinkParent n (G .tree .parents) → readListing n s ≡ value G
 unfolding readListing listingText
-listing-complete n s G f =
+listing-complete n s G f none =
     let h : ListingInRange n G = f .in-range in
     let stated : StatedIn n (record { slack = G .slack; wire = G .wire }) = record { slack = h .slack; wire = h .wire; sinks = h .sinks } in
     let tree : TreeIn n (G .tree) = record {
       parents-all = h .parents-all;
       points-all = h .points-all;
-      parents = all-of (ParentIn n) (G .tree .parents) 0 (λ i b. (h .parents i b, f .no-sink i b));
+      parents = all-of (ParentIn n) (G .tree .parents) 0 (λ i b. (h .parents i b, none i b));
       points = all-of (PointWithin positionLimit) (G .tree .points) origin (h .points);
     } in
     rw (readListing, le-ltb listingLengthLimit (length s) (f .short))
@@ -382,7 +401,4 @@ listing-complete n s G f =
     ∙ then-value _ (tree-complete n (G .tree) (h .sinks .0) tree))
 
 pub listing-one : (n : ℕ) (s : List ℕ) (G H : Listing) → ListingInFormat n s G → ListingInFormat n s H → G ≡ H
-listing-one n s G H f g =
-    let a : readListing n s ≡ value G = listing-complete n s G f in
-    let b : readListing n s ≡ value H = listing-complete n s H g in
-    cc
+listing-one n s G H f g = listing-prefix n n G H [] (f .in-range) (g .in-range) (sym (f .spelled) ∙ g .spelled ∙ sym (append-nil (listingText n H))) .1

@@ -13,8 +13,11 @@ use Rattle.quantities.specs.Ranges.{PointWithin}
 use Rattle.tree.specs.declared.header.Header.{Header}
 use Rattle.tree.specs.Limits.{positionLimit, branchLimit, wireFactorLimit, needLimit, sinkLimit}
 use Rattle.formats.specs.Limits.{netLengthLimit}
-use Rattle.formats.specs.Reading.{around, upTo, inside, Outcome, value, refused, andThen, Read, dueNumber}
-use Rattle.formats.specs.NetText.{rootKey, branchKey, wireKey, needKey, sinksKey, Head, positionRanges, readHead, readRest, netWith, readNet}
+use Rattle.formats.specs.Outcome.{Outcome, value, refused, andThen}
+use Rattle.formats.specs.Ranges.{around, upTo}
+use Rattle.formats.specs.Reading.Lines.{inside, Read, dueNumber}
+use Rattle.formats.specs.NetText.{rootKey, branchKey, wireKey, needKey, sinksKey, positionRanges}
+use Rattle.formats.specs.Reading.Nets.{Head, readHead, readRest, netWith, readNet}
 use Rattle.formats.specs.Inner.Readers.{NumberTaken, headOf, HeadSays, NetHeadSays, fromBranch, fromWire, fromNeed, fromCount}
 use Rattle.formats.specs.declared.ranges.Range.{Range}
 use Rattle.formats.specs.declared.refusal.Text.the-variants.{InNet}

@@ -19,8 +19,11 @@ use Rattle.tree.specs.Limits.{positionLimit, branchLimit, wireFactorLimit, need
 use Rattle.formats.specs.Limits.{netLengthLimit, pinLimit}
 use Rattle.formats.specs.Line.{lineText}
 use Rattle.formats.specs.Refusals.{told}
-use Rattle.formats.specs.Reading.{around, upTo, Outcome, value, refused, andThen, Read, due, dueNatural, ended}
-use Rattle.formats.specs.NetText.{rootKey, branchKey, wireKey, needKey, sinksKey, sinksText, netLines, netText, pinDistance, InFormat, NetRefusal, too-long, not-due, out-of-range, bytes-follow, pin-far, Head, positionRanges, dueRoot, dueBranch, dueWire, dueNeed, dueCount, readHead, readSinks, readRest, netWith, readNetLines, readNet}
+use Rattle.formats.specs.Outcome.{Outcome, value, refused, andThen}
+use Rattle.formats.specs.Ranges.{around, upTo}
+use Rattle.formats.specs.Reading.Lines.{Read, due, dueNatural, ended}
+use Rattle.formats.specs.NetText.{rootKey, branchKey, wireKey, needKey, sinksKey, sinksText, netLines, netText, pinDistance, InFormat, positionRanges}
+use Rattle.formats.specs.Reading.Nets.{Head, dueRoot, dueBranch, dueWire, dueNeed, dueCount, readHead, readSinks, readRest, netWith, readNetLines, readNet}
 use Rattle.formats.specs.FirstFar.{FirstFar, FarPinAt}
 use Rattle.formats.specs.Inner.Readers.{fromCount, fromNeed, fromWire, fromBranch}
 use Rattle.formats.specs.declared.refusal.Text.the-variants.{InNet}
@@ -215,6 +218,14 @@ net-one s N M f g =
     cc
 
 -- ---- refusals
+
+-- the refusals of a net text: 2 and 3 on one of the at most 5 + 512 lines, 4 on the line after the last, 13 on a sink's line
+pub data NetRefusal : Refusal → Type 0 where
+  too-long : NetRefusal (TooLong InNet)
+  not-due : {l : ℕ} → 1 ≤ l → l ≤ 5 + sinkLimit → NetRefusal (NotDue InNet l)
+  out-of-range : {l : ℕ} → 1 ≤ l → l ≤ 5 + sinkLimit → NetRefusal (OutOfRange InNet l)
+  bytes-follow : {l : ℕ} → 7 ≤ l → l ≤ 6 + sinkLimit → NetRefusal (BytesFollow InNet l)
+  pin-far : {l : ℕ} → 6 ≤ l → l ≤ 5 + sinkLimit → NetRefusal (FarPin l)
 
 line-refusal : (e d : Refusal) (k : ℕ) → 1 ≤ k → k ≤ 5 + sinkLimit → LineRefusal InNet k d → _≡_ {A = Outcome Net} (refused e) (refused d) → NetRefusal e
 line-refusal e d k p q (inl b) u = let v : e ≡ NotDue InNet k = cc in rw v (not-due p q)

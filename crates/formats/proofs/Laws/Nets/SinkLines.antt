@@ -17,9 +17,11 @@ use Rattle.tree.specs.Net.{Sink}
 use Rattle.tree.specs.Inner.Arrays.{pointAt, netOf}
 use Rattle.tree.proofs.Laws.Lists.Tables.{table-cong}
 use Rattle.formats.specs.Limits.{pinLimit}
-use Rattle.formats.specs.Reading.{Outcome, value, refused, andThen, Read, reading}
-use Rattle.formats.specs.Line.{lineIn}
-use Rattle.formats.specs.NetText.{sinkKey, sinkRanges, pointOf, sinkOf, nearOnly, dueSink, readSinks, readRest, netWith}
+use Rattle.formats.specs.Outcome.{Outcome, value, refused, andThen}
+use Rattle.formats.specs.Reading.Lines.{Read, reading}
+use Rattle.formats.specs.Reading.Rows.{lineIn}
+use Rattle.formats.specs.NetText.{sinkKey, sinkRanges, pointOf}
+use Rattle.formats.specs.Reading.Nets.{sinkOf, nearOnly, dueSink, readSinks, readRest, netWith}
 use Rattle.formats.specs.Inner.Scanning.{lineAt}
 use Rattle.formats.specs.Inner.Ranging.{Failed, listed}
 use Rattle.formats.specs.Inner.Readers.{headOf, afterHead, sinkHeld, sinksHeld, SinkStored}

@@ -13,8 +13,10 @@ use Rattle.quantities.specs.Ranges.{Within, PointWithin}
 use Rattle.tree.specs.Net.{Sink}
 use Rattle.tree.specs.Limits.{positionLimit, requiredLimit}
 use Rattle.formats.specs.Limits.{pinLimit}
-use Rattle.formats.specs.Reading.{Outcome, value, refused, andThen, Read, reading, due}
-use Rattle.formats.specs.NetText.{sinkKey, sinkText, sinksText, sinkRanges, sinkOf, nearOnly, dueSink, readSinks}
+use Rattle.formats.specs.Outcome.{Outcome, value, refused, andThen}
+use Rattle.formats.specs.Reading.Lines.{Read, reading, due}
+use Rattle.formats.specs.NetText.{sinkKey, sinkText, sinksText, sinkRanges}
+use Rattle.formats.specs.Reading.Nets.{sinkOf, nearOnly, dueSink, readSinks}
 use Rattle.formats.specs.declared.refusal.Text.the-variants.{InNet}
 use Rattle.formats.specs.declared.refusal.Refusal.{Refusal}
 use Rattle.formats.specs.declared.refusal.Refusal.the-variants.{FarPin}

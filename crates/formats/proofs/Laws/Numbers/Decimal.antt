@@ -12,7 +12,8 @@ use lib.Signed.{ltZ}
 use native.Mathlib.Omega.{arith}
 use native.Mathlib.Nat.{div-add-mod', pow-succ'}
 use borrow.Author.Tests.{lt-ltb, le-ltb, le-leb, ltb-true, ltb-false, eqb-true, eqb-false, ne-eqb}
-use Rattle.formats.specs.Decimal.{digits, showNat, show, isDigit, lead, value, Field, spelt, misspelt, natural, signing, field, signed, isNegative}
+use Rattle.formats.specs.Decimal.{digits, showNat, show}
+use Rattle.formats.specs.Reading.Numbers.{isDigit, lead, value, Field, spelt, misspelt, natural, signing, field, signed, isNegative}
 use Rattle.formats.proofs.Laws.Numbers.Digits.{digit-range, lead-nil, lead-yes, lead-no, value-nil, value-cons}
 
 pub lt-or-le : (a b : ℕ) → (a < b) ⊎ (b ≤ a)

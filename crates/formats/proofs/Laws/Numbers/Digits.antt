@@ -8,7 +8,7 @@ use lib.Seq.{drop-cons}
 use lib.Dec.{ltb, leb}
 use native.Mathlib.Omega.{arith}
 use borrow.Author.Tests.{leb-true, ltb-true}
-use Rattle.formats.specs.Decimal.{isDigit, lead, value}
+use Rattle.formats.specs.Reading.Numbers.{isDigit, lead, value}
 
 -- a digit is a byte from 48 to 57
 pub digit-range : (b : ℕ) → isDigit b ≡ true → (48 ≤ b) × (b < 58)

@@ -6,8 +6,9 @@ use native.Mathlib.Omega.{arith}
 use lib.IntN.{ℤ, pos, negsuc, natAbs}
 use lib.Signed.{_≤ℤ_, _<ℤ_, leZ}
 use Rattle.quantities.specs.Inner.Linear.{whole, neg-up, neg-dn, leZ-is, leZ-not}
-use Rattle.formats.specs.Decimal.{signed, isNegative}
-use Rattle.formats.specs.Reading.{around, inside}
+use Rattle.formats.specs.Reading.Numbers.{signed, isNegative}
+use Rattle.formats.specs.Ranges.{around}
+use Rattle.formats.specs.Reading.Lines.{inside}
 use Rattle.formats.specs.Inner.Scanning.{held, magnitudeCap}
 use Rattle.formats.specs.Inner.Ranging.{Narrow, Tested}
 use Rattle.formats.specs.declared.ranges.Range.{Range}

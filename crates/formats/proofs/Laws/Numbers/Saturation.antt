@@ -7,7 +7,7 @@ use lib.ListN.{length, getD, drop}
 use lib.Seq.{drop-cons}
 use native.Mathlib.Omega.{arith}
 use native.Mathlib.Numerals.{add-one}
-use Rattle.formats.specs.Decimal.{isDigit, lead, value}
+use Rattle.formats.specs.Reading.Numbers.{isDigit, lead, value}
 use Rattle.formats.specs.Inner.Scanning.{magnitudeCap, heldBy, runAt}
 use Rattle.formats.specs.declared.number.Number.{Number}
 use Rattle.formats.proofs.Laws.Numbers.Digits.{lead-yes, value-nil, value-cons}

@@ -7,7 +7,7 @@ use lib.IntN.{pos, negsuc, _-ℤ_, +ℤ-idl}
 use mir.Syntax.{w64}
 use mir.Val.{SFits, toZ, ofZ}
 use mir.Facts.{toZ-ofZ}
-use Rattle.formats.specs.Decimal.{signed}
+use Rattle.formats.specs.Reading.Numbers.{signed}
 use Rattle.formats.specs.Inner.Scanning.{magnitudeCap}
 
 signed-minus : (n : ℕ) → pos 0 -ℤ pos n ≡ signed true n

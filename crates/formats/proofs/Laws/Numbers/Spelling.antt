@@ -10,8 +10,8 @@ use lib.Dec.{ltb, eqb}
 use native.Mathlib.Omega.{arith}
 use native.Mathlib.Nat.{add-zero, eq-zero-or-pos}
 use borrow.Author.Tests.{lt-ltb, le-ltb, eq-eqb, ne-eqb, eqb-true}
-use Rattle.formats.specs.Decimal.{Field, spelt, misspelt, lead, well, natural, signing, field}
-use Rattle.formats.specs.Line.{stopBy, numberThen}
+use Rattle.formats.specs.Reading.Numbers.{Field, spelt, misspelt, lead, well, natural, signing, field}
+use Rattle.formats.specs.Reading.Rows.{stopBy, numberThen}
 use Rattle.formats.specs.Inner.Scanning.{heldBy, runAt, scannedAt}
 use Rattle.formats.specs.declared.number.Number.{Number}
 use Rattle.formats.specs.declared.scan.Run.{Run}

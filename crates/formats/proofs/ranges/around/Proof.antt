@@ -4,7 +4,7 @@ use mathlib.Core.Path.{_≡_, refl, _∙_}
 use mathlib.Core.Bool.{true}
 use lib.IntN.{pos, negℤ}
 use borrow.Author.Needs.{needs}
-use Rattle.formats.specs.Decimal.{signed}
+use Rattle.formats.specs.Reading.Numbers.{signed}
 use Rattle.formats.proofs.Laws.Numbers.Signs.{difference-fits, minus-back, plain-back}
 use Rattle.formats.proofs.ranges.around.Statement.{statement}
 use Rattle.formats.proofs.ranges.around.Tie as tie

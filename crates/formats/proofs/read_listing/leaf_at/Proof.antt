@@ -10,7 +10,7 @@ use lib.IntN.{pos}
 use denote.Ref.{now}
 use borrow.Author.Needs.{needs}
 use borrow.Author.Tests.{not-true, not-false}
-use Rattle.formats.specs.Line.{lineIn}
+use Rattle.formats.specs.Reading.Rows.{lineIn}
 use Rattle.formats.specs.ListingText.{leafKey, parentRange}
 use Rattle.formats.specs.Inner.Scanning.{takenAt}
 use Rattle.formats.specs.Inner.Ranging.{Narrow, Tested}

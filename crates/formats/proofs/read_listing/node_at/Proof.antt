@@ -12,7 +12,7 @@ use borrow.Author.Tests.{not-true, not-false}
 use Rattle.quantities.specs.Inner.Linear.{rd, fit}
 use Rattle.tree.specs.Limits.{positionLimit, sinkLimit}
 use Rattle.formats.specs.declared.ranges.Range.{Range}
-use Rattle.formats.specs.Line.{lineIn}
+use Rattle.formats.specs.Reading.Rows.{lineIn}
 use Rattle.formats.specs.NetText.{positionRanges}
 use Rattle.formats.specs.ListingText.{nodeKey, parentRange}
 use Rattle.formats.specs.Inner.Scanning.{takenAt}

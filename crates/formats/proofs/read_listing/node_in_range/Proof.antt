@@ -8,7 +8,7 @@ use native.Mathlib.Omega.{arith}
 use borrow.Author.Needs.{needs}
 use borrow.Author.Tests.{not-true, not-false}
 use Rattle.tree.specs.Limits.{positionLimit}
-use Rattle.formats.specs.Reading.{around}
+use Rattle.formats.specs.Ranges.{around}
 use Rattle.formats.specs.NetText.{positionRanges}
 use Rattle.formats.specs.ListingText.{parentRange}
 use Rattle.formats.specs.Inner.Ranging.{Narrow, Tested, Ranged, others}

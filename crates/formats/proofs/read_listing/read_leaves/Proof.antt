@@ -5,7 +5,7 @@ use native.Mathlib.Omega.{arith}
 use lib.ListN.{length, getD, set, drop, length-set}
 use denote.Ref.{now}
 use borrow.Author.Needs.{needs}
-use Rattle.formats.specs.ListingText.{dueLeaf}
+use Rattle.formats.specs.Reading.Listings.{dueLeaf}
 use Rattle.formats.specs.Inner.ListingReader.{VertexSays, leavesIn}
 use Rattle.formats.proofs.Laws.Listings.ListingLines.{LinesTo, lines-start, lines-more, lines-refused, lines-all, parent-below, parent-here}
 use Rattle.formats.proofs.read_listing.read_leaves.Statement.{statement}

@@ -4,7 +4,7 @@ use lib.ListN.{drop}
 use denote.Ref.{now}
 use borrow.Author.Needs.{needs}
 use Rattle.tree.specs.Inner.Arrays.{treeOf}
-use Rattle.formats.specs.ListingText.{readStated, readTree}
+use Rattle.formats.specs.Reading.Listings.{readStated, readTree}
 use Rattle.formats.specs.Inner.ListingReader.{StatedFrom}
 use Rattle.formats.specs.declared.read_listing.StatedLines.{StatedLines}
 use Rattle.formats.specs.declared.read_listing.StatedLines.the-variants.{StatedRead, StatedRefused}

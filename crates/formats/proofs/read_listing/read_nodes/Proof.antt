@@ -8,8 +8,8 @@ use mir.Facts.{toZ-ofZ}
 use denote.Ref.{now}
 use borrow.Author.Needs.{needs}
 use Rattle.quantities.specs.Inner.Linear.{rd, fit}
-use Rattle.formats.specs.Reading.{value}
-use Rattle.formats.specs.ListingText.{dueNode}
+use Rattle.formats.specs.Outcome.{value}
+use Rattle.formats.specs.Reading.Listings.{dueNode}
 use Rattle.formats.specs.Inner.ListingReader.{VertexSays, nodesIn, vertexHeld}
 use Rattle.formats.proofs.Laws.Listings.ListingLines.{LinesTo, Kept, kept-more, lines-start, lines-more, lines-refused, lines-all, nodes-told, vertex-below, vertex-here}
 use Rattle.formats.proofs.read_listing.read_nodes.Statement.{statement}

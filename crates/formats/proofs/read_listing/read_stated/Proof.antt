@@ -9,7 +9,7 @@ use borrow.Author.Needs.{needs}
 use Rattle.quantities.specs.Inner.Linear.{whole, neg-up, neg-dn}
 use lib.IntN.{pos}
 use Rattle.tree.specs.Limits.{slackLimit}
-use Rattle.formats.specs.Reading.{around}
+use Rattle.formats.specs.Ranges.{around}
 use Rattle.formats.specs.ListingText.{slackKey}
 use Rattle.formats.specs.Inner.Ranging.{Narrow}
 use Rattle.formats.specs.Inner.Readers.{NumberTaken}

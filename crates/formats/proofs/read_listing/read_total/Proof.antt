@@ -10,7 +10,7 @@ use mir.Facts.{toZ-ofZ}
 use borrow.Author.Needs.{needs}
 use Rattle.quantities.specs.Inner.Linear.{whole, natAbs-is}
 use Rattle.tree.specs.Limits.{wireLimit}
-use Rattle.formats.specs.Reading.{fromZero}
+use Rattle.formats.specs.Ranges.{fromZero}
 use Rattle.formats.specs.NetText.{wireKey}
 use Rattle.formats.specs.Inner.Ranging.{Narrow}
 use Rattle.formats.specs.Inner.Readers.{NumberTaken}

@@ -5,7 +5,7 @@ use lib.ListN.{drop}
 use denote.Ref.{now}
 use borrow.Author.Needs.{needs}
 use borrow.Author.Tests.{ltb-true, ltb-false}
-use Rattle.formats.specs.Reading.{value}
+use Rattle.formats.specs.Outcome.{value}
 use Rattle.formats.specs.Inner.Readers.{ReadTo}
 use Rattle.formats.specs.Inner.ListingReader.{LinesSay, parentsFrom, verticesFrom, leavesIn, nodesIn}
 use Rattle.formats.specs.declared.reader.Place.{Place}

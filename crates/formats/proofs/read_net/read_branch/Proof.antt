@@ -7,7 +7,7 @@ use mir.Val.{SFits}
 use mir.Facts.{toZ-ofZ}
 use Rattle.quantities.specs.Inner.Linear.{whole}
 use Rattle.tree.specs.Limits.{branchLimit}
-use Rattle.formats.specs.Reading.{upTo}
+use Rattle.formats.specs.Ranges.{upTo}
 use Rattle.formats.specs.NetText.{branchKey}
 use Rattle.formats.specs.Inner.Ranging.{Narrow}
 use Rattle.formats.specs.Inner.Readers.{NumberTaken}

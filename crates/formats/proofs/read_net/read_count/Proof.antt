@@ -8,7 +8,7 @@ use mir.Val.{SFits}
 use mir.Facts.{toZ-ofZ}
 use Rattle.quantities.specs.Inner.Linear.{whole, natAbs-is}
 use Rattle.tree.specs.Limits.{sinkLimit}
-use Rattle.formats.specs.Reading.{upTo}
+use Rattle.formats.specs.Ranges.{upTo}
 use Rattle.formats.specs.NetText.{sinksKey}
 use Rattle.formats.specs.Inner.Ranging.{Narrow}
 use Rattle.formats.specs.Inner.Readers.{NumberTaken}

@@ -7,7 +7,7 @@ use mir.Val.{SFits}
 use mir.Facts.{toZ-ofZ}
 use Rattle.quantities.specs.Inner.Linear.{up, whole}
 use Rattle.tree.specs.Limits.{needLimit}
-use Rattle.formats.specs.Reading.{around}
+use Rattle.formats.specs.Ranges.{around}
 use Rattle.formats.specs.NetText.{needKey}
 use Rattle.formats.specs.Inner.Ranging.{Narrow}
 use Rattle.formats.specs.Inner.Readers.{NumberTaken}

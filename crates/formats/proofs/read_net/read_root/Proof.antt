@@ -8,7 +8,7 @@ use mir.Facts.{toZ-ofZ}
 use borrow.Author.Tests.{not-true, not-false}
 use Rattle.quantities.specs.Inner.Linear.{fit}
 use Rattle.tree.specs.Limits.{positionLimit}
-use Rattle.formats.specs.Line.{lineIn}
+use Rattle.formats.specs.Reading.Rows.{lineIn}
 use Rattle.formats.specs.NetText.{rootKey, positionRanges}
 use Rattle.formats.specs.Inner.Scanning.{lineAt}
 use Rattle.formats.specs.Inner.Ranging.{listed}

@@ -14,7 +14,7 @@ use borrow.Author.Tests.{not-true, not-false}
 use Rattle.quantities.specs.Inner.Linear.{fit}
 use Rattle.quantities.specs.declared.point.Point.{Point}
 use Rattle.tree.specs.Limits.{positionLimit, requiredLimit}
-use Rattle.formats.specs.Line.{lineIn}
+use Rattle.formats.specs.Reading.Rows.{lineIn}
 use Rattle.formats.specs.NetText.{sinkKey, sinkRanges}
 use Rattle.formats.specs.Inner.Ranging.{listed}
 use Rattle.formats.specs.Inner.Scanning.{lineAt}

@@ -8,7 +8,7 @@ use mir.Val.{SFits}
 use mir.Facts.{toZ-ofZ}
 use Rattle.quantities.specs.Inner.Linear.{up, whole, natAbs-is}
 use Rattle.tree.specs.Limits.{wireFactorLimit}
-use Rattle.formats.specs.Reading.{upTo}
+use Rattle.formats.specs.Ranges.{upTo}
 use Rattle.formats.specs.NetText.{wireKey}
 use Rattle.formats.specs.Inner.Ranging.{Narrow}
 use Rattle.formats.specs.Inner.Readers.{NumberTaken}

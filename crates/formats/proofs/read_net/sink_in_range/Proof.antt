@@ -5,7 +5,8 @@ use mathlib.Core.Bool.{Bool, true, false}
 use native.Mathlib.Omega.{arith}
 use borrow.Author.Tests.{not-true, not-false}
 use Rattle.tree.specs.Limits.{positionLimit, requiredLimit}
-use Rattle.formats.specs.Reading.{around, inside}
+use Rattle.formats.specs.Ranges.{around}
+use Rattle.formats.specs.Reading.Lines.{inside}
 use Rattle.formats.specs.NetText.{sinkRanges}
 use Rattle.formats.specs.Inner.Ranging.{Narrow, listed, Tested, Ranged}
 use Rattle.formats.specs.declared.scan.Numbers.{Numbers}

@@ -9,7 +9,7 @@ use native.Mathlib.Omega.{arith}
 use borrow.Author.Tests.{not-true, not-false}
 use mir.Facts.{toZ-ofZ}
 use Rattle.quantities.specs.Inner.Linear.{fit}
-use Rattle.formats.specs.Line.{lineIn}
+use Rattle.formats.specs.Reading.Rows.{lineIn}
 use Rattle.formats.specs.Inner.Scanning.{lineAt}
 use Rattle.formats.specs.declared.scan.Numbers.{Numbers}
 use Rattle.formats.specs.declared.scan.Line.the-variants.{Spelt}

@@ -37,7 +37,7 @@ use denote.Triple.Table.{entered, cited}
 use denote.Triple.Walked.{says, needs, Stays, stay-none, stay-none-slice, walkOf, goes-none, goes-none-slice, Walks, ends-at, walked, walk-meets}
 use denote.Exit.{yes}
 use denote.Triple.Clauses.{ensured, lasts}
-use Rattle.formats.specs.Line.{lineIn}
+use Rattle.formats.specs.Reading.Rows.{lineIn}
 use Rattle.formats.specs.Inner.Scanning.{takenAt}
 use Rattle.formats.specs.declared.reader.LineReader.{LineReader}
 use Rattle.formats.specs.declared.reader.Taken.{Taken}

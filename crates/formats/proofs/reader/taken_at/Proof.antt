@@ -3,7 +3,7 @@ use mathlib.Core.Path.{sym, _∙_}
 use lib.ListN.{drop}
 use denote.Ref.{now}
 use borrow.Author.Needs.{needs}
-use Rattle.formats.specs.Line.{lineIn}
+use Rattle.formats.specs.Reading.Rows.{lineIn}
 use Rattle.formats.proofs.Laws.Lines.Taking.{not-due, as-due}
 use Rattle.formats.proofs.reader.taken_at.Statement.{statement}
 use Rattle.formats.proofs.reader.taken_at.Tie as tie

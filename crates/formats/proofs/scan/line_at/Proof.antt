@@ -5,7 +5,7 @@ use lib.ListN.{drop}
 use denote.Ref.{now}
 use borrow.Author.Needs.{needs}
 use borrow.Author.Tests.{not-true, not-false}
-use Rattle.formats.specs.Line.{begins}
+use Rattle.formats.specs.Reading.Rows.{begins}
 use Rattle.formats.proofs.Laws.Lines.Keys.{begins-within}
 use Rattle.formats.proofs.Laws.Lines.Rows.{line-wrong, line-right}
 use Rattle.formats.proofs.scan.line_at.Statement.{statement}

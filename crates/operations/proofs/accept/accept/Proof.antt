@@ -7,8 +7,9 @@ use Rattle.tree.specs.Net.{Net, size}
 use Rattle.tree.specs.Inner.Arrays.{netOf}
 use Rattle.tree.proofs.Laws.Arrays.NetAndTree.{size-is}
 use Rattle.tree.proofs.Laws.Arrays.PlanArrays.{some-few}
-use Rattle.formats.specs.Reading.{value}
-use Rattle.formats.specs.ListingText.{Listing, readListing}
+use Rattle.formats.specs.Outcome.{value}
+use Rattle.formats.specs.ListingText.{Listing}
+use Rattle.formats.specs.Reading.Listings.{readListing}
 use Rattle.formats.specs.Inner.ListingReader.{listingHeld}
 use Rattle.formats.proofs.Laws.Held.{kept-net, kept-holds, read-listing-holds}
 use Rattle.operations.proofs.Laws.Judging.{tree-accepted, listing-turned}

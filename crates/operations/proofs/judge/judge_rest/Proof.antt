@@ -3,8 +3,8 @@ use mathlib.Core.Path.{_≡_, sym, ap, _∙_}
 use native.Mathlib.Omega.{arith}
 use Rattle.tree.specs.Net.{Net}
 use Rattle.tree.specs.Inner.Arrays.{netOf}
-use Rattle.formats.specs.NetText.{readNet}
-use Rattle.formats.specs.Reading.{value}
+use Rattle.formats.specs.Reading.Nets.{readNet}
+use Rattle.formats.specs.Outcome.{value}
 use Rattle.formats.proofs.Laws.Held.{read-net-holds}
 use Rattle.operations.specs.Answers.{judgeAnswer}
 use Rattle.operations.proofs.Laws.Answers.{judge-refused}

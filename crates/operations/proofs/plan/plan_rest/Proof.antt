@@ -2,8 +2,8 @@
 use mathlib.Core.Path.{_≡_, _∙_}
 use native.Mathlib.Omega.{arith}
 use Rattle.tree.specs.Inner.Arrays.{netOf}
-use Rattle.formats.specs.NetText.{readNet}
-use Rattle.formats.specs.Reading.{value}
+use Rattle.formats.specs.Reading.Nets.{readNet}
+use Rattle.formats.specs.Outcome.{value}
 use Rattle.formats.proofs.Laws.Held.{read-net-holds}
 use Rattle.operations.proofs.Laws.Planning.{refused-answer, read-answer}
 use borrow.Author.Needs.{needs}

@@ -222,7 +222,7 @@ module _ (N : Net) (c1 : 1 ≤ N .branch) (k : ℕ) (kN : k < size N) (slacks : 
           met v d y (inl e) = absurd (d e)
           met v d y (inr u) = u
 
-pub smallest-slack : (N : Net) → 1 ≤ N .branch → SmallestSlack N
+pub smallest-slack : SmallestSlack
 smallest-slack N c1 = record {
   gathered = λ j l slacks. (leaves-gathered N c1 j l slacks, gathered-leaves N c1 j l slacks);
   tried = λ j l slacks G v h. gathered-score N c1 j (omega arith) G l v (to-vertex N c1 j (omega arith) v h);

@@ -1,9 +1,10 @@
 -- The marked nets of document 01, by computation and by Theorem 1.
 use Prim.Native.Nat.{ℕ}
-use mathlib.Core.Path.{_≡_, refl, sym, subst}
+use mathlib.Core.Path.{_≡_, refl, sym, ap, ap₂, subst, _∙_}
 use mathlib.Core.List.{[], _∷_}
 use native.Mathlib.Nat.{mul-zero}
 use native.Mathlib.Omega.{arith}
+use lib.ListN.{length}
 use lib.IntN.{pos, negℤ}
 use lib.Signed.{_<ℤ_, ltZ-yes}
 use Rattle.quantities.specs.MinMax.{minℤ, maxℤ}
@@ -11,16 +12,19 @@ use Rattle.quantities.specs.Floor.{floorDiv}
 use Rattle.quantities.specs.Delay.{delay}
 use Rattle.quantities.specs.Distance.{span, distance}
 use Rattle.quantities.specs.Median.{median, medianPoint}
-use Rattle.tree.specs.Net.{ownSlacks}
+use Rattle.tree.specs.Net.{Net, size, ownSlack, ownSlacks}
 use Rattle.tree.specs.Tree.{Legal}
 use Rattle.tree.specs.Measures.{worstSlack, wireLength}
 use Rattle.tree.specs.Kraft.{kraftMaximum, searchDown, IsKraftMaximum}
 use Rattle.tree.specs.Planning.{tieRule}
 use Rattle.tree.specs.Settling.{plan, planBy}
-use Rattle.tree.specs.Marked.{netA, oneSink, Marked}
+use Rattle.tree.specs.Theorem1.{Theorem1For}
+use Rattle.tree.specs.Marked.{netA, oneSink, TwoSinks, Marked}
 use Rattle.tree.proofs.Laws.Trees.StepsToRoot.{legal-reach}
 use Rattle.tree.proofs.Laws.Kraft.Maximum.{maximum-is, maximum-single}
+use Rattle.tree.proofs.Laws.Lists.Tables.{table-length}
 use Rattle.tree.proofs.Laws.Planning.AnyTieRule.{need-not}
+use Rattle.tree.proofs.Laws.Planning.Theorem1.{theorem-1}
 
 maximum-A : kraftMaximum 20 (ownSlacks netA) ≡ pos 0
 unfolding kraftMaximum searchDown floorDiv minℤ delay distance span
@@ -41,6 +45,24 @@ best-one : (c : ℕ) → IsKraftMaximum c (ownSlacks (oneSink c)) (negℤ (pos 4
 unfolding delay distance span
 best-one c = maximum-single c (negℤ (pos 4))
 
+-- two sinks of own slack 5, c = 3, by Theorem 1
+module _ (N : Net) (t : TwoSinks N) where
+  two-own : kraftMaximum (N .branch) (ownSlacks N) ≡ pos 2
+  unfolding kraftMaximum searchDown floorDiv minℤ
+  two-own = ap₂ kraftMaximum (t .branch) (t .own)
+
+  two-size : size N ≡ 2
+  two-size = sym (table-length (ownSlack N) 1 (size N)) ∙ ap length (t .own)
+
+  two-theorem : Theorem1For N
+  two-theorem = theorem-1 N (omega (arith, t .branch)) (omega (arith, two-size))
+
+  slack-two : worstSlack N (plan N) ≡ pos 2
+  slack-two = two-theorem .attained ∙ two-own
+
+  best-two : IsKraftMaximum (N .branch) (ownSlacks N) (pos 2)
+  best-two = subst (IsKraftMaximum (N .branch) (ownSlacks N)) two-own (two-theorem .maximum)
+
 ring-illegal : Legal 3 (0 ∷ (4 ∷ (5 ∷ (5 ∷ (4 ∷ []))))) → ⊥
 ring-illegal L = omega (arith, legal-reach 3 (0 ∷ (4 ∷ (5 ∷ (5 ∷ (4 ∷ []))))) L 2 (omega arith))
 
@@ -59,7 +81,9 @@ marked = record {
   one-slack = slack-one;
   one-wire = λ c. refl;
   one-best = λ c h. best-one c;
-  two-slack = refl;
+  two-slack = slack-two;
+  two-best = best-two;
+  two-some = record { own = refl; branch = refl };
   nearest-root = refl;
   nearest-root-slack = refl;
   nearest-root-wire = refl;
@@ -69,6 +93,7 @@ marked = record {
   A-gathered = refl;
   A-tried = refl;
   A-gathered-all = refl;
+  three-edges = refl;
   three-tried = refl;
   median-of-three = refl;
   ring-counts = refl;

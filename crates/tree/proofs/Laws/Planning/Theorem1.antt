@@ -1,4 +1,4 @@
--- Theorem 1 as specs/Theorem1 states it, for every net with c at least 1 and a sink. Assumes nothing.
+-- Theorem 1 as specs/Theorem1 states it. Assumes nothing.
 use Prim.Native.Nat.{_≤_}
 use mathlib.Core.Path.{_≡_, sym, subst}
 use mathlib.Core.Logic.{_↔_}
@@ -13,7 +13,7 @@ use Rattle.tree.specs.Kraft.{kraftMaximum}
 use Rattle.tree.specs.Planning.{tieRule}
 use Rattle.tree.specs.Settling.{plan, planBy}
 use Rattle.tree.specs.Limits.{needLimit, InRange}
-use Rattle.tree.specs.Theorem1.{Theorem1}
+use Rattle.tree.specs.Theorem1.{Theorem1For, Theorem1}
 use Rattle.tree.proofs.Laws.Kraft.Maximum.{maximum-one}
 use Rattle.tree.proofs.Laws.Settling.SlackKept.{settling}
 use Rattle.tree.proofs.Laws.Planning.AnyTieRule.{maximum-of-net, plan-legal, plan-best, plan-computed, kraft-sum}
@@ -37,8 +37,8 @@ module _ (N : Net) (c1 : 1 ≤ N .branch) (n1 : 1 ≤ size N) where
     λ h. subst (λ z. z <ℤ t) attained (h (plan N) legal),
   )
 
-  pub theorem-1 : Theorem1 N
-  theorem-1 = record {
+  of-net : Theorem1For N
+  of-net = record {
     maximum = maximum-of-net N c1 n1;
     only = λ s h. maximum-one (N .branch) (ownSlacks N) s (kraftMaximum (N .branch) (ownSlacks N)) h (maximum-of-net N c1 n1);
     bounded = bounded;
@@ -48,6 +48,9 @@ module _ (N : Net) (c1 : 1 ≤ N .branch) (n1 : 1 ≤ size N) where
     insertions = kraft-sum N c1 n1 tieRule;
     settling = λ P L s p q. settling N P L s p q;
   }
+
+pub theorem-1 : Theorem1
+theorem-1 = of-net
 
 -- "The lowest t is always reachable."
 pub lowest-need-reached : (N : Net) → InRange N → (R : Tree) × (LegalTree N R × (negℤ (pos needLimit) ≤ℤ worstSlack N R))

@@ -1,22 +1,20 @@
--- The judge's counts find nothing just where the tree is legal, and else the lowest vertex. Assumes nothing.
+-- What the judge's searches find: where nothing, the numbers of children that are due; else the lowest vertex. Assumes nothing.
 use Prim.Native.Nat.{ℕ, zero, suc, _+_, _*_, _-_, _≤_, _<_}
 use mathlib.Core.Path.{_≡_, refl, sym, ap, _∙_, subst}
 use mathlib.Core.Bool.{Bool, true, false, cond, not}
-use mathlib.Core.Logic.{_≢_, _⊎_, inl, inr, ⊎-elim}
+use mathlib.Core.Logic.{_≢_, _⊎_, inl, inr}
 use mathlib.Core.List.{List, [], _∷_}
 use mathlib.Core.Option.{none, some}
 use native.Mathlib.Omega.{arith}
 use lib.ListN.{length, getD}
 use lib.Dec.{T, eqb, eqb→eq, eqb-refl}
-use Rattle.tree.proofs.Laws.Trees.Walks.{ancestor-top}
-use Rattle.tree.proofs.Laws.Trees.LegalTrees.{nowhere, sum-down}
+use Rattle.tree.proofs.Laws.Trees.LegalTrees.{sum-down}
 use Rattle.tree.proofs.Laws.Planning.BeforeSettling.{sumOver-range}
-use Rattle.tree.proofs.Laws.Trees.StepsToRoot.{legal-reach}
 use Rattle.tree.proofs.Laws.Lists.Sums.{sum, sum-cong, sum-split, sum-scale, sum-ones, sum-member, sum-places, regroup, equal?, delta-self, delta-ne, down-in, down-once}
 use Rattle.tree.specs.Defects.{dueChildren, wrongChildren, unreached}
 use Rattle.tree.specs.Lists.{delta, count, down, range, firstWith}
 use Rattle.tree.specs.Net.{branchNumbers}
-use Rattle.tree.specs.Tree.{parentOf, ancestor, Legal}
+use Rattle.tree.specs.Tree.{parentOf, ancestor}
 
 -- ---- the first that passes
 
@@ -58,7 +56,7 @@ first-some test a (suc n) v e = go (test a) refl e (first-some test (suc a) n v)
 
 -- ---- tests of equality
 
-differs-no : (a b : ℕ) → not (eqb a b) ≡ false → a ≡ b
+pub differs-no : (a b : ℕ) → not (eqb a b) ≡ false → a ≡ b
 differs-no a b e = by (eqb a b) e (λ t. eqb→eq a b t)
   where
     by : (t : Bool) → not t ≡ false → (T t → a ≡ b) → a ≡ b
@@ -72,7 +70,7 @@ no-differs a b e = by (eqb a b) (subst (λ z. T (eqb a z)) e (eqb-refl a))
     by true e = refl
     by false e = absurd e
 
--- ---- accepted just where it is legal
+-- ---- the numbers of a range, and of children
 
 pub range-in : (a n v : ℕ) → 1 ≤ a → count v (range a n) ≢ 0 → (a ≤ v) × (v < a + n)
 range-in zero n v h m = absurd (omega arith)
@@ -126,37 +124,6 @@ module _ (n : ℕ) (P : List ℕ) (w : wrongChildren n P ≡ none) where
         sum-member 1 n f s s1 (omega arith),
         root-one,
       )
-
-module _ (n : ℕ) (P : List ℕ) (R : Read n P) where
-  pub legal-if : wrongChildren n P ≡ none → unreached n P ≡ none → Legal n P
-  legal-if w u = record {
-    size = R .size;
-    inside = R .inside;
-    root = root-one n P w;
-    sink = λ s p q. nowhere P s (λ i h e. ⊎-elim (λ z. omega arith) (λ z. omega arith) (R .no-sink i h));
-    branch = branch-two n P w;
-    reach = λ v h. (2 * n - 1, reach v h);
-  }
-    where
-      reach : (v : ℕ) → v < 2 * n → ancestor (parentOf P) (2 * n - 1) v ≡ 0
-      reach zero h = ancestor-top (parentOf P) (2 * n - 1) refl
-      reach (suc v) h = differs-no (ancestor (parentOf P) (2 * n - 1) (suc v)) 0
-          (first-none (λ v. not (eqb (ancestor (parentOf P) (2 * n - 1) v) 0)) (range 1 (2 * n - 1)) u (suc v) (in-range 1 (2 * n - 1) (suc v) (omega arith) (omega arith) (omega arith)))
-
-  pub legal-only : Legal n P → (wrongChildren n P ≡ none) × (unreached n P ≡ none)
-  legal-only L = (
-    none-first (λ v. not (eqb (count v P) (dueChildren v))) (0 ∷ branchNumbers n) counts,
-    none-first (λ v. not (eqb (ancestor (parentOf P) (2 * n - 1) v) 0)) (range 1 (2 * n - 1)) reached,
-  )
-    where
-      counts : (v : ℕ) → delta v 0 + count v (branchNumbers n) ≢ 0 → not (eqb (count v P) (dueChildren v)) ≡ false
-      counts zero m = no-differs (count 0 P) 1 (L .root)
-      counts (suc v) m = let r : (suc n ≤ suc v) × (suc v < suc n + (n - 1)) = range-in (suc n) (n - 1) (suc v) (omega arith) (omega arith) in
-          no-differs (count (suc v) P) 2 (L .branch (suc v) (omega arith) (omega (arith, R .some-sink)))
-
-      reached : (v : ℕ) → count v (range 1 (2 * n - 1)) ≢ 0 → not (eqb (ancestor (parentOf P) (2 * n - 1) v) 0) ≡ false
-      reached v m = let r : (1 ≤ v) × (v < 1 + (2 * n - 1)) = range-in 1 (2 * n - 1) v (omega arith) m in
-          no-differs (ancestor (parentOf P) (2 * n - 1) v) 0 (legal-reach n P L v (omega (arith, R .some-sink)))
 
 -- ---- what is found is the lowest
 

@@ -15,16 +15,16 @@ use Rattle.quantities.proofs.wire_factor.WireFactor.delay.Tie as tie
 distance-requires : tie.Need-distance-requires
 distance-requires c κs = search needs
 
-value-requires : tie.Need-value-requires
-value-requires c κs = search needs
+micrometres-requires : tie.Need-micrometres-requires
+micrometres-requires c κs = search needs
 
 -- the product is the delay
 product-is : (c : tie.After-struct-known)
-    → c .before .before .before .args .self .0 * c .before .value .result ≡ delay (c .before .before .before .args .self) (c .before .before .before .args .p) (c .before .before .before .args .q)
+    → c .before .before .before .args .self .0 * c .before .micrometres .result ≡ delay (c .before .before .before .args .self) (c .before .before .before .args .p) (c .before .before .before .args .q)
 unfolding delay
-product-is c = ap (λ (n : ℕ). c .before .before .before .args .self .0 * n) (c .before .value .ensures ∙ c .before .before .distance .ensures)
+product-is c = ap (λ (n : ℕ). c .before .before .before .args .self .0 * n) (c .before .micrometres .ensures ∙ c .before .before .distance .ensures)
 
-small : (c : tie.After-struct-known) → c .before .before .before .args .self .0 * c .before .value .result ≤ factorReach * (4 * coordinateReach)
+small : (c : tie.After-struct-known) → c .before .before .before .args .self .0 * c .before .micrometres .result ≤ factorReach * (4 * coordinateReach)
 small c =
     let a = c .before .before .before .args in
     let w = c .before .before .before .pre in
@@ -43,4 +43,4 @@ returns : tie.Need-returns
 returns c = c .of .ensures ∙ toZ-ofZ (cast-of (c .before)) ∙ ap pos (product-is (c .before))
 
 pub delay-spec : {M : Type 1} → statement M
-delay-spec = tie.close (tie.spec distance-requires value-requires mul-product cast-of of-requires returns)
+delay-spec = tie.close (tie.spec distance-requires micrometres-requires mul-product cast-of of-requires returns)
