@@ -1,5 +1,6 @@
 // A text in, and one out. No contract can say which bytes go through a descriptor.
 ghost use Rattle.console.specs.Inner.Rooms.{FitsIn};
+ghost use Prim.Native.Nat.{_≤_};
 ghost use lib.ListN.{length};
 use libc::EINTR;
 use libc::STDERR_FILENO;
@@ -56,23 +57,28 @@ pub fn read_file(name: &[u8], text: &mut [u8]) -> Input
     input
 }
 
-// The answer goes out by one write: nothing is written after a write that took only a part.
-fn write_answer(answer: &[u8]) {
+// The answer goes out by one write: nothing is written after a write that took only a part. What is given is how many of its bytes went out, as the system tells.
+fn write_answer(answer: &[u8]) -> usize
+    ensures { λ r. ⌜ r ≤ length (now (answer .entry)) ⌝ }
+{
     let put = libc::write(STDOUT_FILENO, answer);
+    let sent = io::count(put, answer);
     if put < 0 {
         os::fail(b"standard output");
-        return;
-    }
-    if (put as usize) < answer.len() {
+    } else if sent < answer.len() {
         io::write_all(
             STDERR_FILENO,
             b"standard output: the answer was cut short\n",
         );
     }
+    sent
 }
 
-// The answer goes to standard output, the complaint to standard error. What could not go out is told on standard error.
-pub fn write_out(answer: &[u8], complaint: &[u8]) {
-    write_answer(answer);
+// The answer goes to standard output, the complaint to standard error. What could not go out is told on standard error. What is given is how many bytes of the answer went out, as the system tells.
+pub fn write_out(answer: &[u8], complaint: &[u8]) -> usize
+    ensures { λ r. ⌜ r ≤ length (now (answer .entry)) ⌝ }
+{
+    let sent = write_answer(answer);
     io::write_all(STDERR_FILENO, complaint);
+    sent
 }

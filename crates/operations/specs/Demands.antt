@@ -24,15 +24,19 @@ use Rattle.operations.specs.Refusing.{NeedUnreachable, PlanRefuses, Judg
 use Rattle.operations.specs.declared.answers.PlanAnswer.{PlanAnswer}
 use Rattle.operations.specs.declared.answers.JudgeAnswer.{JudgeAnswer}
 
+-- a refusal of the net text: 1 to 4 and 13, with text 1. (5 has text 1 too, but it is about the trees of a net that was read.)
+abbrev pub OfNetText : Refusal → Type 0
+OfNetText e = (told e .text ≡ 1) × (told e .number ≢ 5)
+
 -- 1. "Any bytes and any output length get a result or a numbered refusal with its line; a refusal leaves the output untouched".
 -- (That every run ends is shown with each function.)
 pub record Demand1 (net listing out : List ℕ) : Type 0 where
   -- each refusal exactly for its row of 01's table
   pub plan-refuses : (e : Refusal) → (planOf net (length out) ≡ refused e) ↔ PlanRefuses net (length out) e
   pub judge-refuses : (e : Refusal) → (judgeOf net listing ≡ refused e) ↔ JudgeRefuses net listing e
-  -- a result only for a net in the format
-  pub plan-read : (w : Written) → planOf net (length out) ≡ value w → (N : Net) × InFormat net N
-  pub judge-read : (j : Judgement) → judgeOf net listing ≡ value j → (N : Net) × InFormat net N
+  -- whatever is answered but a refusal of the net text, it is for a net in the format
+  pub plan-read : ((e : Refusal) → planOf net (length out) ≡ refused e → OfNetText e → ⊥) → (N : Net) × InFormat net N
+  pub judge-read : ((e : Refusal) → judgeOf net listing ≡ refused e → OfNetText e → ⊥) → (N : Net) × InFormat net N
   -- "the output is untouched."
   pub untouched : (e : Refusal) → planOf net (length out) ≡ refused e → planOutput net out ≡ out
   -- "output bytes beyond those keep their values"

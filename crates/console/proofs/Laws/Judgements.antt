@@ -11,6 +11,7 @@ use Rattle.tree.specs.Limits.{slackLimit, wireLimit}
 use Rattle.formats.specs.Outcome.{Outcome, value, refused}
 use Rattle.formats.specs.NetText.{InFormat}
 use Rattle.formats.specs.ListingText.{Listing, ListingInFormat}
+use Rattle.formats.proofs.Laws.Lines.DueTexts.{never}
 use Rattle.operations.specs.Answers.{Judgement, judgeOf, judgeAnswer}
 use Rattle.operations.specs.declared.answers.JudgeAnswer.the-variants.{Judged}
 use Rattle.operations.specs.Demands.{Demand2}
@@ -23,7 +24,7 @@ MeasuresIn j = Within slackLimit (j .slack) × (j .wire ≤ wireLimit) × Within
 module _ (net listing : List ℕ) (j : Judgement) (judged : judgeOf net listing ≡ value j) where
   judged-in-range : MeasuresIn j
   judged-in-range =
-      let read = demands .first net listing [] .judge-read j judged in
+      let read = demands .first net listing [] .judge-read (λ e h f. never j e (sym judged ∙ h)) in
       let N : Net = read .0 in
       let F : InFormat net N = read .1 in
       let second : Demand2 net N = demands .second net N F in

@@ -1,7 +1,7 @@
 -- The three demands, for all bytes, outputs and nets in the format. Assumes nothing.
 use Prim.Native.Nat.{ℕ, _≤_, _<_}
 use mathlib.Core.Path.{_≡_, refl, sym, ap, _∙_, subst}
-use mathlib.Core.Logic.{_≢_, _↔_}
+use mathlib.Core.Logic.{_≢_, _↔_, _⊎_, inl, inr}
 use mathlib.Core.List.{List, _++_}
 use native.Mathlib.Omega.{arith}
 use lib.ListN.{length, take, drop}
@@ -23,21 +23,23 @@ use Rattle.formats.specs.NetText.{InFormat}
 use Rattle.formats.specs.Reading.Nets.{readNet}
 use Rattle.formats.specs.ListingText.{Listing, ListingInFormat, NoSinkParent}
 use Rattle.formats.specs.Reading.Listings.{readListing}
+use Rattle.formats.specs.Faults.{NetFault}
+use Rattle.formats.specs.declared.refusal.Refusal.{Refusal}
 use Rattle.formats.specs.declared.refusal.Refusal.the-variants.{Unreachable, TooShort, WrongChildren, NotReached, OtherSlack, OtherWire}
 use Rattle.formats.proofs.Laws.Lines.Refusals.{numbered}
 use Rattle.formats.proofs.Laws.Lines.DueTexts.{never}
 use Rattle.formats.proofs.Laws.Lines.Outcomes.{same-refusal}
-use Rattle.formats.proofs.Laws.Nets.NetTexts.{net-complete, net-sound}
+use Rattle.formats.proofs.Laws.Nets.NetTexts.{NetRefusal, net-complete, net-refused}
 use Rattle.formats.proofs.Laws.Listings.ListingTexts.{listing-sound, listing-complete, listing-one}
 use Rattle.formats.proofs.Laws.Faults.NetFaults.{net-answered}
 use Rattle.formats.proofs.Laws.Faults.ListingFaults.{listing-answered}
 use Rattle.operations.specs.Accepting.{vertexLine, acceptTree, acceptListing}
 use Rattle.operations.specs.Answers.{Written, planListing, planned, planNet, planOf, bytesOf, overwritten, planOutput, Judgement, judgement, judgeOf}
-use Rattle.operations.specs.Refusing.{NeedUnreachable, PlanRefuses}
-use Rattle.operations.specs.Demands.{Demand1, LegalAndTrue, Accepts, writtenTo, withNeed, Demand2, Demand3, Demands}
+use Rattle.operations.specs.Refusing.{NeedUnreachable, PlanRefuses, JudgeRefuses}
+use Rattle.operations.specs.Demands.{OfNetText, Demand1, LegalAndTrue, Accepts, writtenTo, withNeed, Demand2, Demand3, Demands}
 use Rattle.operations.specs.Inner.Acceptance.{judgeNet}
 use Rattle.operations.proofs.Laws.Accepting.{legal-no-sink, true-all, true-cases, tree-cases, read-shape, legal-accepted}
-use Rattle.operations.proofs.Laws.Answers.{plan-refused, judge-refused, planWritten, Ends, unreachable, short, written, ends, overwritten-beyond, overwritten-length, plan-one, judge-one}
+use Rattle.operations.proofs.Laws.Answers.{planWritten, Ends, unreachable, short, written, ends, overwritten-beyond, overwritten-length, plan-one, judge-one}
 use Rattle.operations.proofs.Laws.Judging.{judge-read}
 use Rattle.operations.proofs.Laws.Needless.{needless}
 use Rattle.operations.proofs.Laws.PlanListing.{planned-legal, plan-listing}
@@ -59,21 +61,21 @@ bytes-fit net room = go (readNet net)
     go (value N) = net-fits N (ends N room)
     go (refused e) = omega arith
 
--- a result comes of a net that was read
-module _ (net : List ℕ) where
-  plan-value : (room : ℕ) (w : Written) → planOf net room ≡ value w → (N : Net) × InFormat net N
-  plan-value room w h = go (readNet net) refl
-    where
-      go : (o : Outcome Net) → readNet net ≡ o → (N : Net) × InFormat net N
-      go (value N) r = (N, net-sound net N r)
-      go (refused e) r = never w e (sym h ∙ plan-refused net e r room)
+-- the faults of a net text are told by 1 to 4 and by 13
+of-net-text : (e : Refusal) → NetRefusal e → OfNetText e
+of-net-text e NetRefusal.too-long = (refl, λ q. omega arith)
+of-net-text e (NetRefusal.not-due p q) = (refl, λ q. omega arith)
+of-net-text e (NetRefusal.out-of-range p q) = (refl, λ q. omega arith)
+of-net-text e (NetRefusal.bytes-follow p q) = (refl, λ q. omega arith)
+of-net-text e (NetRefusal.pin-far p q) = (refl, λ q. omega arith)
 
-  judge-value : (listing : List ℕ) (j : Judgement) → judgeOf net listing ≡ value j → (N : Net) × InFormat net N
-  judge-value listing j h = go (readNet net) refl
-    where
-      go : (o : Outcome Net) → readNet net ≡ o → (N : Net) × InFormat net N
-      go (value N) r = (N, net-sound net N r)
-      go (refused e) r = never j e (sym h ∙ judge-refused net e r listing)
+-- where the net's fault is not what is answered, it has none
+read-net : {A : Type 0} (net : List ℕ) (o : Outcome A) → ((e : Refusal) → NetFault net e → o ≡ refused e) → ((e : Refusal) → o ≡ refused e → OfNetText e → ⊥) → (N : Net) × InFormat net N
+read-net net o faults others = go (net-answered net .either)
+  where
+    go : ((N : Net) × InFormat net N) ⊎ ((e : Refusal) × NetFault net e) → (N : Net) × InFormat net N
+    go (inl f) = f
+    go (inr f) = absurd (others (f .0) (faults (f .0) (f .1)) (of-net-text (f .0) (net-refused net (f .0) (net-answered net .refuses (f .0) .1 (f .1)))))
 
 demand-1 : (net listing out : List ℕ) → Demand1 net listing out
 unfolding planOutput
@@ -82,8 +84,8 @@ demand-1 net listing out =
     record {
       plan-refuses = plan-refuses net (length out);
       judge-refuses = judge-refuses net listing;
-      plan-read = plan-value net (length out);
-      judge-read = judge-value net listing;
+      plan-read = read-net net (planOf net (length out)) (λ e f. plan-refuses net (length out) e .1 (PlanRefuses.in-net f));
+      judge-read = read-net net (judgeOf net listing) (λ e f. judge-refuses net listing e .1 (JudgeRefuses.in-net f));
       untouched = λ e h. ap (λ o. overwritten (bytesOf o) out) h;
       beyond = overwritten-beyond w out;
       same-length = overwritten-length w out (bytes-fit net (length out));
