@@ -15,33 +15,16 @@ fn planted(file: fn(&mut Sources) -> &mut String, old: &str, new: &str) -> Vec<S
     compare(&sources).differences
 }
 
-fn library(s: &mut Sources) -> &mut String {
-    &mut s.library
+/// A file to plant in, for each of these.
+macro_rules! files {
+    ($($name:ident),*) => {
+        $(fn $name(s: &mut Sources) -> &mut String {
+            &mut s.$name
+        })*
+    };
 }
 
-fn header(s: &mut Sources) -> &mut String {
-    &mut s.header
-}
-
-fn calls(s: &mut Sources) -> &mut String {
-    &mut s.calls
-}
-
-fn wrapper(s: &mut Sources) -> &mut String {
-    &mut s.wrapper
-}
-
-fn manifest(s: &mut Sources) -> &mut String {
-    &mut s.manifest
-}
-
-fn refusals(s: &mut Sources) -> &mut String {
-    &mut s.refusals
-}
-
-fn words(s: &mut Sources) -> &mut String {
-    &mut s.words
-}
+files!(library, header, calls, wrapper, manifest, refusals, words);
 
 /// The file of limits that has the pin limit.
 fn limits(s: &mut Sources) -> &mut String {
