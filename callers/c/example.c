@@ -1,5 +1,7 @@
-/* Plans a net of three sinks, judges the plan, then asks for too much, hands
- * over a pin too far from the root, and texts and an output of no bytes.
+/* Plans a net of three sinks, judges the plan, does the same where a micrometre
+ * upward costs more than one across, then asks for too much, hands over one wire
+ * factor for two, a pin too far from the root, and texts and an output of no
+ * bytes.
  *
  * Build and run, from the repository's root:
  *   cc -o target/example callers/c/example.c target/staticlib/librepeater_tree.a \
@@ -11,14 +13,30 @@
 #include <stdio.h>
 #include <string.h>
 
-#define NET_WITH(need, last)                                       \
-    "root=0,0\nbranch=20\nwire=2\nneed=" need "\nsinks=3\n"        \
+#define NET_WITH(wire, need, last)                                 \
+    "root=0,0\nbranch=20\nwire=" wire "\nneed=" need "\nsinks=3\n" \
     "sink=10,0,100\nsink=4,6,60\nsink=" last "\n"
-#define NET(need) NET_WITH(need, "10,10,70")
+#define NET(need) NET_WITH("2,2", need, "10,10,70")
 
-static const char expected[] =
+/* A net, and what is due for it. */
+struct due {
+    const char *net;
+    int64_t slack;
+    uint64_t wire;
+    const char *listing;
+};
+
+static const struct due one_metal = {
+    NET("0"), 0, 32,
     "slack=0\nwire=32\nsinks=3\nleaf=1,5\nleaf=2,5\nleaf=3,4\n"
-    "node=4,0,4,0\nnode=5,4,4,0\n";
+    "node=4,0,4,0\nnode=5,4,4,0\n"};
+
+/* The same pins, later due, where upward costs three times as much. */
+static const struct due two_metals = {
+    "root=0,0\nbranch=20\nwire=2,6\nneed=0\nsinks=3\n"
+    "sink=10,0,100\nsink=4,6,110\nsink=10,10,150\n", 30, 26,
+    "slack=30\nwire=26\nsinks=3\nleaf=1,5\nleaf=2,4\nleaf=3,5\n"
+    "node=4,0,4,0\nnode=5,4,10,0\n"};
 
 static const uint8_t *bytes_of(const char *s) { return (const uint8_t *)s; }
 
@@ -27,39 +45,38 @@ static int unexpected(const char *what) {
     return 1;
 }
 
-static int plan(uint8_t *out, size_t length, size_t *bytes) {
-    const char *net = NET("0");
+static int plan(const struct due *due, uint8_t *out, size_t length, size_t *bytes) {
     uint8_t text;
     size_t line;
     int64_t slack;
     uint64_t wire;
-    uint8_t number = repeater_tree_plan(bytes_of(net), strlen(net), out, length,
+    uint8_t number = repeater_tree_plan(bytes_of(due->net), strlen(due->net), out, length,
                                         &text, &line, &slack, &wire, bytes);
     printf("plan: number=%u slack=%" PRId64 " wire=%" PRIu64 " bytes=%zu\n",
            (unsigned)number, slack, wire, *bytes);
     if (number != REPEATER_TREE_DONE || text != 0 || line != 0)
         return unexpected("the plan is refused");
-    if (slack != 0 || wire != 32 || *bytes != strlen(expected))
+    if (slack != due->slack || wire != due->wire || *bytes != strlen(due->listing))
         return unexpected("the plan's figures");
     fwrite(out, 1, *bytes, stdout);
-    if (memcmp(out, expected, *bytes) != 0)
+    if (memcmp(out, due->listing, *bytes) != 0)
         return unexpected("the plan's listing");
     return 0;
 }
 
-static int judge(const uint8_t *listing, size_t length) {
-    const char *net = NET("0");
+static int judge(const struct due *due, const uint8_t *listing, size_t length) {
     uint8_t text;
     size_t line;
     int64_t slack, best;
     uint64_t wire;
-    uint8_t number = repeater_tree_judge(bytes_of(net), strlen(net), listing, length,
+    uint8_t number = repeater_tree_judge(bytes_of(due->net), strlen(due->net),
+                                         listing, length,
                                          &text, &line, &slack, &wire, &best);
     printf("judge: number=%u slack=%" PRId64 " wire=%" PRIu64 " best=%" PRId64 "\n",
            (unsigned)number, slack, wire, best);
     if (number != REPEATER_TREE_DONE || text != 0 || line != 0)
         return unexpected("the listing is refused");
-    if (slack != 0 || wire != 32 || best != 0)
+    if (slack != due->slack || wire != due->wire || best != due->slack)
         return unexpected("the judge's figures");
     return 0;
 }
@@ -118,14 +135,19 @@ static int nothing_lent(void) {
 int main(void) {
     static uint8_t out[REPEATER_TREE_LISTING_LENGTH];
     const struct refusal unreachable = {REPEATER_TREE_UNREACHABLE, 1, 4};
+    const struct refusal one_factor = {REPEATER_TREE_MALFORMED, 1, 3};
     const struct refusal far_pin = {REPEATER_TREE_FAR_PIN, 1, 8};
-    const char *too_much = NET("1"), *far = NET_WITH("0", "10,40000,70");
+    const char *too_much = NET("1"), *one = NET_WITH("2", "0", "10,10,70");
+    const char *far = NET_WITH("2,2", "0", "10,40000,70");
     size_t bytes = 0;
     printf("version %d.%d.%d\n", REPEATER_TREE_VERSION_MAJOR,
            REPEATER_TREE_VERSION_MINOR, REPEATER_TREE_VERSION_PATCH);
-    return plan(out, sizeof out, &bytes)
-        || judge(out, bytes)
+    return plan(&one_metal, out, sizeof out, &bytes)
+        || judge(&one_metal, out, bytes)
+        || plan(&two_metals, out, sizeof out, &bytes)
+        || judge(&two_metals, out, bytes)
         || plan_refused("need=1", too_much, strlen(too_much), out, sizeof out, unreachable)
+        || plan_refused("wire=2", one, strlen(one), out, sizeof out, one_factor)
         || plan_refused("a far pin", far, strlen(far), out, sizeof out, far_pin)
         || nothing_lent();
 }

@@ -2,7 +2,10 @@
  *
  * docs/FORMAT.md has the two texts, their ranges and the rules of the plan.
  * Positions and lengths are in micrometres (um), times in femtoseconds (fs),
- * the wire factor in fs per um. A distance is |dx| + |dy|.
+ * the two wire factors in fs per um. A distance is |dx| + |dy|. The net's line
+ * wire=h,v gives a factor for each metal direction, 1 to 10,000: an edge
+ * delays by h * |dx| + v * |dy|. Wire, nearness and the pin limit are plain
+ * micrometres, and the listing's line wire=L has one number.
  *
  * What the caller owes:
  *   - the pointer to a text or an output is valid for its length; where the
@@ -27,7 +30,7 @@ extern "C" {
 /* While MAJOR is 0, another MINOR may change the texts, the answers or the
  * calls; another PATCH changes none of them. */
 #define REPEATER_TREE_VERSION_MAJOR 0
-#define REPEATER_TREE_VERSION_MINOR 4
+#define REPEATER_TREE_VERSION_MINOR 5
 #define REPEATER_TREE_VERSION_PATCH 0
 
 /* The longest texts that are read, in bytes. No listing that a plan writes

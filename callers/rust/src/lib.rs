@@ -1,10 +1,13 @@
 //! Safe calls of the repeater tree planner.
 //!
 //! Positions and lengths are in micrometres, times in femtoseconds;
-//! `docs/FORMAT.md` has the two texts.
+//! `docs/FORMAT.md` has the two texts. The net's line `wire=h,v` gives what a
+//! micrometre costs in each metal direction: an edge delays by
+//! h × |dx| + v × |dy|. Wire, nearness and the pin limit are plain micrometres.
 //!
 //! ```
-//! let net = b"root=0,0\nbranch=20\nwire=2\nneed=0\nsinks=1\nsink=3,4,20\n";
+//! // 3 across at 2 and 4 upward at 5: 26 of the 32 femtoseconds.
+//! let net = b"root=0,0\nbranch=20\nwire=2,5\nneed=0\nsinks=1\nsink=3,4,32\n";
 //! let mut out = [0; repeater_tree::LISTING_LENGTH];
 //! let plan = repeater_tree::plan(net, &mut out).unwrap();
 //! assert_eq!((plan.slack, plan.wire), (6, 7));

@@ -7,7 +7,7 @@ node=4,0,4,0\nnode=5,4,4,0\n";
 
 fn net(need: &str) -> Vec<u8> {
     format!(
-        "root=0,0\nbranch=20\nwire=2\nneed={need}\nsinks=3\n\
+        "root=0,0\nbranch=20\nwire=2,2\nneed={need}\nsinks=3\n\
          sink=10,0,100\nsink=4,6,60\nsink=10,10,70\n"
     )
     .into_bytes()
@@ -60,10 +60,80 @@ fn refuses_in_plain_words() {
     );
 }
 
+/// Net A's pins, later due, with line 3 so spelt.
+fn net_with(wire: &str) -> Vec<u8> {
+    format!(
+        "root=0,0\nbranch=20\n{wire}\nneed=0\nsinks=3\n\
+         sink=10,0,100\nsink=4,6,110\nsink=10,10,150\n"
+    )
+    .into_bytes()
+}
+
+/// Neither factor alone gives the tree of both, and they do not change places.
+#[test]
+fn plans_by_both_factors() {
+    for (wire, slack, length, tree) in [
+        (
+            "wire=2,6",
+            30,
+            26,
+            "leaf=1,5\nleaf=2,4\nleaf=3,5\nnode=4,0,4,0\nnode=5,4,10,0\n",
+        ),
+        (
+            "wire=2,2",
+            50,
+            26,
+            "leaf=1,4\nleaf=2,5\nleaf=3,5\nnode=4,0,4,0\nnode=5,4,4,6\n",
+        ),
+        (
+            "wire=6,6",
+            0,
+            32,
+            "leaf=1,5\nleaf=2,5\nleaf=3,4\nnode=4,0,4,0\nnode=5,4,4,0\n",
+        ),
+        (
+            "wire=6,2",
+            20,
+            26,
+            "leaf=1,4\nleaf=2,5\nleaf=3,5\nnode=4,0,4,0\nnode=5,4,4,6\n",
+        ),
+    ] {
+        let net = net_with(wire);
+        let mut out = [7; 200];
+        let plan = plan(&net, &mut out).unwrap();
+        let listing = format!("slack={slack}\nwire={length}\nsinks=3\n{tree}");
+        assert_eq!(&out[..plan.bytes], listing.as_bytes());
+        let measures = judge(&net, listing.as_bytes()).unwrap();
+        assert_eq!((plan.slack, plan.wire), (slack, length));
+        assert_eq!(
+            (measures.slack, measures.wire, measures.best),
+            (slack, length, slack)
+        );
+    }
+}
+
+#[test]
+fn refuses_other_factors() {
+    for (wire, number) in [
+        ("wire=2", 2),
+        ("wire=0", 2),
+        ("wire=2,6,1", 2),
+        ("wire=0,x", 2),
+        ("wire=0,6", 3),
+        ("wire=2,0", 3),
+        ("wire=10001,6", 3),
+        ("wire=2,10001", 3),
+    ] {
+        let refusal = plan(&net_with(wire), &mut [0; 200]).unwrap_err();
+        assert_eq!((refusal.number, refusal.text, refusal.line), (number, 1, 3));
+        assert_eq!(judge(&net_with(wire), b"").unwrap_err(), refusal);
+    }
+}
+
 /// A net of one sink, so far from the root.
 fn pin_at(distance: u64) -> Vec<u8> {
     format!(
-        "root=0,0\nbranch=20\nwire=2\nneed=-2000000000000\nsinks=1\nsink=1,{},100\n",
+        "root=0,0\nbranch=20\nwire=2,2\nneed=-2000000000000\nsinks=1\nsink=1,{},100\n",
         distance - 1
     )
     .into_bytes()

@@ -9,7 +9,8 @@ const OPPOSITE: i64 = 100_000;
 /// corner, and branch points and wire cost as much as they may.
 fn net(sinks: usize, x: i64, required: i64) -> Vec<u8> {
     let sink = format!("sink={x},{CORNER},{required}\n");
-    let head = format!("root={CORNER},{CORNER}\nbranch=1000000\nwire=10000\nneed=-2000000000000\n");
+    let head =
+        format!("root={CORNER},{CORNER}\nbranch=1000000\nwire=10000,10000\nneed=-2000000000000\n");
     format!("{head}sinks={sinks}\n{}", sink.repeat(sinks)).into_bytes()
 }
 

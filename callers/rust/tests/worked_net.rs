@@ -1,13 +1,12 @@
-//! The worked net of docs/FORMAT.md: its texts are what plan and judge give.
+//! The worked nets of docs/FORMAT.md: their texts are what plan and judge give.
 
 use repeater_tree::{judge, plan, LISTING_LENGTH};
 
 const PAGE: &str = include_str!("../../../docs/FORMAT.md");
 
-/// The indented blocks of the worked net's section, each line without the words
-/// beside it.
+/// The indented blocks of the section, each line without the words beside it.
 fn blocks() -> Vec<String> {
-    let (_, section) = PAGE.split_once("\n## 10. ").expect("the worked net");
+    let (_, section) = PAGE.split_once("\n## 10. ").expect("the worked nets");
     let mut blocks = vec![String::new()];
     for line in section.lines() {
         let text = line.strip_prefix("    ").and_then(|l| l.split(' ').next());
@@ -39,4 +38,15 @@ fn the_page_tells_what_is_given() {
     let more = net.replace("need=-10\n", "need=-9\n");
     let refusal = plan(more.as_bytes(), &mut out).unwrap_err();
     assert_eq!((refusal.number, refusal.text, refusal.line), (5, 1, 4));
+}
+
+#[test]
+fn the_page_tells_what_two_factors_give() {
+    let blocks = blocks();
+    let [net, listing] = &blocks[3..5] else {
+        panic!("a net and its listing are due")
+    };
+    let mut out = [0; LISTING_LENGTH];
+    let planned = plan(net.as_bytes(), &mut out).unwrap();
+    assert_eq!(&out[..planned.bytes], listing.as_bytes());
 }

@@ -9,11 +9,11 @@ use lib.Signed.{_≤ℤ_}
 use Rattle.quantities.specs.declared.point.Point.{Point}
 use Rattle.quantities.specs.Distance.{distance}
 use Rattle.tree.specs.Net.{Net}
-use Rattle.tree.specs.Limits.{branchLimit, wireFactorLimit, needLimit, sinkLimit, slackLimit, wireLimit}
+use Rattle.tree.specs.Limits.{branchLimit, needLimit, sinkLimit, slackLimit, wireLimit}
 use Rattle.formats.specs.Limits.{netLengthLimit, listingLengthLimit, pinLimit}
 use Rattle.formats.specs.Line.{lineText}
 use Rattle.formats.specs.Ranges.{around, upTo, fromZero, at}
-use Rattle.formats.specs.NetText.{rootKey, branchKey, wireKey, needKey, sinksKey, sinkKey, positionRanges, sinkRanges, pointOf}
+use Rattle.formats.specs.NetText.{rootKey, branchKey, wireKey, needKey, sinksKey, sinkKey, positionRanges, factorRanges, sinkRanges, pointOf}
 use Rattle.formats.specs.ListingText.{Listing, slackKey, leafKey, nodeKey, parentRange}
 use Rattle.formats.specs.declared.ranges.Range.{Range}
 use Rattle.formats.specs.declared.refusal.Text.{Text}
@@ -100,12 +100,12 @@ abbrev pub sinkLines : Point → ℕ → Lines
 sinkLines root zero = end
 sinkLines root (suc n) = line (record { key = sinkKey; given = []; ranges = sinkRanges; also = near root }) (λ zs. sinkLines root n)
 
--- `root=X,Y`, `branch=c`, `wire=d`, `need=t`, `sinks=n`, "then n lines `sink=X,Y,a`"
+-- `root=X,Y`, `branch=c`, `wire=h,v`, `need=t`, `sinks=n`, "then n lines `sink=X,Y,a`"
 abbrev pub linesOfNet : Lines
 linesOfNet =
     line (plain rootKey positionRanges) λ root.
     line (plain branchKey (upTo branchLimit ∷ [])) λ branch.
-    line (plain wireKey (upTo wireFactorLimit ∷ [])) λ wire.
+    line (plain wireKey factorRanges) λ wire.
     line (plain needKey (around needLimit ∷ [])) λ need.
     line (plain sinksKey (upTo sinkLimit ∷ [])) λ count.
     sinkLines (pointOf root) (natAbs (at count 0))

@@ -1,4 +1,4 @@
--- The net text: document 01, 'The net text', with the pin limit of 02's request 2. Its bytes, which texts are in the format, and the ranges on its lines. Definitions alone.
+-- The net text: document 01, 'The net text', with the pin limit of 02's request 2 and the two factors of its request 4. Its bytes, which texts are in the format, and the ranges on its lines. Definitions alone.
 use Prim.Native.Nat.{ℕ, _≤_}
 use mathlib.Core.Path.{_≡_}
 use mathlib.Core.List.{List, [], _∷_, _++_}
@@ -7,11 +7,11 @@ use lib.IntN.{ℤ, pos}
 use Rattle.quantities.specs.declared.point.Point.{Point}
 use Rattle.quantities.specs.Distance.{distance}
 use Rattle.tree.specs.Net.{Net, Sink, size, sinkAt}
-use Rattle.tree.specs.Limits.{positionLimit, requiredLimit, InRange}
+use Rattle.tree.specs.Limits.{positionLimit, wireFactorLimit, requiredLimit, InRange}
 use Rattle.formats.specs.Limits.{netLengthLimit, pinLimit}
 use Rattle.formats.specs.Bytes.{bytes}
 use Rattle.formats.specs.Line.{lineText}
-use Rattle.formats.specs.Ranges.{around, at}
+use Rattle.formats.specs.Ranges.{around, upTo, at}
 use Rattle.formats.specs.declared.ranges.Range.{Range}
 
 -- ---- the bytes of a net
@@ -42,12 +42,12 @@ abbrev pub sinksText : List Sink → List ℕ
 sinksText [] = []
 sinksText (s ∷ l) = sinkText s ++ sinksText l
 
--- "Lines in this order, each ended by the byte 10": `root=X,Y`, `branch=c`, `wire=d`, `need=t`, `sinks=n`, then a line `sink=X,Y,a` for each sink of N
+-- "Lines in this order, each ended by the byte 10": `root=X,Y`, `branch=c`, `wire=h,v`, `need=t`, `sinks=n`, then a line `sink=X,Y,a` for each sink of N
 unfoldable pub netLines : ℕ → Net → List ℕ
 netLines n N =
     lineText rootKey (N .root .x ∷ (N .root .y ∷ []))
     ++ (lineText branchKey (pos (N .branch) ∷ [])
-    ++ (lineText wireKey (pos (N .wire .0) ∷ [])
+    ++ (lineText wireKey (pos (N .wire .horizontal .0) ∷ (pos (N .wire .vertical .0) ∷ []))
     ++ (lineText needKey (N .need ∷ [])
     ++ (lineText sinksKey (pos n ∷ [])
     ++ sinksText (N .sinks)))))
@@ -70,12 +70,20 @@ pub record InFormat (s : List ℕ) (N : Net) : Type 0 where
 
 -- ---- its lines: ranges, and the point that a line says
 
+-- two numbers in one range
+abbrev pub both : Range → List Range
+both g = g ∷ (g ∷ [])
+
 abbrev pub positionRanges : List Range
-positionRanges = around positionLimit ∷ (around positionLimit ∷ [])
+positionRanges = both (around positionLimit)
 
 -- a line's first two numbers are a point
 abbrev pub pointOf : List ℤ → Point
 pointOf zs = record { x = at zs 0; y = at zs 1 }
+
+-- 02, request 4: "The net line becomes `wire=h,v`, each 1 to 10,000"
+abbrev pub factorRanges : List Range
+factorRanges = both (upTo wireFactorLimit)
 
 abbrev pub sinkRanges : List Range
 sinkRanges = around positionLimit ∷ (around positionLimit ∷ (around requiredLimit ∷ []))

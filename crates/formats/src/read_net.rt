@@ -10,12 +10,13 @@ ghost use Rattle.tree.specs.Inner.Arrays.{pointAt};
 ghost use Rattle.tree.specs.declared.header.Header.{Header};
 ghost use Rattle.tree.specs.Limits.{positionLimit, sinkLimit};
 ghost use Rattle.formats.specs.Limits.{pinLimit};
-ghost use Rattle.formats.specs.NetText.{positionRanges, sinkRanges};
+ghost use Rattle.formats.specs.NetText.{both, sinkRanges};
 ghost use Rattle.formats.specs.Reading.Nets.{readHead};
-ghost use Rattle.formats.specs.Inner.Ranging.{Ranged, listed};
+ghost use Rattle.formats.specs.Inner.Ranging.{Narrow, Ranged, listed};
 ghost use Rattle.formats.specs.Inner.Readers.{AtSinks, HasPlace, HeadSays, NetHeadSays, fromBranch, fromWire, fromNeed, fromCount, afterHead, SinkSays, netOutcome};
 use crate::limits::NET_LENGTH_LIMIT;
 use crate::limits::PIN_LIMIT;
+use crate::ranges::Range;
 use crate::ranges::around;
 use crate::ranges::is_inside;
 use crate::ranges::up_to;
@@ -29,6 +30,7 @@ use crate::refusal::Refusal;
 use crate::refusal::Text;
 use crate::scan::Numbers;
 use quantities::length::Length;
+use quantities::metal_pair::MetalPair;
 use quantities::point::Point;
 use quantities::point::distance;
 use quantities::time::Time;
@@ -90,7 +92,7 @@ fn read_root(text: &[u8]) -> HeadLines
             },
         };
     };
-    if !is_position(numbers) {
+    if !both_inside(numbers, around(POSITION_LIMIT)) {
         return HeadLines::HeadRefused {
             refusal: Refusal::OutOfRange {
                 text: Text::InNet,
@@ -123,16 +125,33 @@ fn read_wire(text: &[u8], here: Place, root: Point, branch: Time) -> HeadLines
     requires { ⌜ (here .at ≤ length (now text)) × (here .line ≡ 3) × PointWithin positionLimit root ⌝ }
     ensures { λ r. ⌜ HeadSays (fromWire root (up (branch .0)) (drop (here .at) (now (text .entry)))) (now (text .entry)) r ⌝ }
 {
-    match read_number(text, Text::InNet, here, b"wire=", up_to(WIRE_FACTOR_LIMIT)) {
-        NumberLine::NumberRefused { refusal } => HeadLines::HeadRefused { refusal },
-        NumberLine::NumberRead { value, next } => {
-            read_need(text, next, root, branch, WireFactor::of(value as u64))
-        }
+    let Taken::AsDue { numbers, next } = read_line(text, here.at, 3, b"wire=", 2) else {
+        return HeadLines::HeadRefused {
+            refusal: Refusal::NotDue {
+                text: Text::InNet,
+                line: 3,
+            },
+        };
+    };
+    if !both_inside(numbers, up_to(WIRE_FACTOR_LIMIT)) {
+        return HeadLines::HeadRefused {
+            refusal: Refusal::OutOfRange {
+                text: Text::InNet,
+                line: 3,
+            },
+        };
     }
+    let horizontal = numbers.first;
+    let vertical = numbers.second;
+    let wire = MetalPair {
+        horizontal: WireFactor::of(horizontal.value() as u64),
+        vertical: WireFactor::of(vertical.value() as u64),
+    };
+    read_need(text, next, root, branch, wire)
 }
 
 // Line 4 and those after it.
-fn read_need(text: &[u8], here: Place, root: Point, branch: Time, wire: WireFactor) -> HeadLines
+fn read_need(text: &[u8], here: Place, root: Point, branch: Time, wire: MetalPair) -> HeadLines
     requires { ⌜ (here .at ≤ length (now text)) × (here .line ≡ 4) × PointWithin positionLimit root ⌝ }
     ensures { λ r. ⌜ HeadSays (fromNeed root (up (branch .0)) wire (drop (here .at) (now (text .entry)))) (now (text .entry)) r ⌝ }
 {
@@ -161,14 +180,15 @@ fn read_count(text: &[u8], here: Place, root: Point, header: Header) -> HeadLine
     }
 }
 
-// Whether the first two numbers of a line are a position in range.
-fn is_position(numbers: Numbers) -> bool
-    ensures { λ r. ⌜ Ranged r positionRanges (listed numbers) ⌝ }
+// Whether the first two numbers of a line are in one range.
+fn both_inside(numbers: Numbers, range: Range) -> bool
+    requires { ⌜ Narrow range ⌝ }
+    ensures { λ r. ⌜ Ranged r (both range) (listed numbers) ⌝ }
 {
-    if !is_inside(numbers.first, around(POSITION_LIMIT)) {
+    if !is_inside(numbers.first, range) {
         return false;
     }
-    is_inside(numbers.second, around(POSITION_LIMIT))
+    is_inside(numbers.second, range)
 }
 
 // Whether a pin stands farther from the root than the pin limit.

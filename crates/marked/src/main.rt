@@ -91,22 +91,22 @@ fn show_lines() {
     show(b"");
     // `branch=0`: 3,1,2.
     show(
-        b"root=0,0\nbranch=0\nwire=2\nneed=0\nsinks=3\nsink=10,0,100\nsink=4,6,60\nsink=10,10,70\n",
+        b"root=0,0\nbranch=0\nwire=2,2\nneed=0\nsinks=3\nsink=10,0,100\nsink=4,6,60\nsink=10,10,70\n",
     );
     // `need=-0`: 2,1,4.
     show(
-        b"root=0,0\nbranch=20\nwire=2\nneed=-0\nsinks=3\nsink=10,0,100\nsink=4,6,60\nsink=10,10,70\n",
+        b"root=0,0\nbranch=20\nwire=2,2\nneed=-0\nsinks=3\nsink=10,0,100\nsink=4,6,60\nsink=10,10,70\n",
     );
     // A, and A with `need=1`: 5,1,4; judge reads the net and refuses the listing.
     show(
-        b"root=0,0\nbranch=20\nwire=2\nneed=0\nsinks=3\nsink=10,0,100\nsink=4,6,60\nsink=10,10,70\n",
+        b"root=0,0\nbranch=20\nwire=2,2\nneed=0\nsinks=3\nsink=10,0,100\nsink=4,6,60\nsink=10,10,70\n",
     );
     show(
-        b"root=0,0\nbranch=20\nwire=2\nneed=1\nsinks=3\nsink=10,0,100\nsink=4,6,60\nsink=10,10,70\n",
+        b"root=0,0\nbranch=20\nwire=2,2\nneed=1\nsinks=3\nsink=10,0,100\nsink=4,6,60\nsink=10,10,70\n",
     );
     // `sinks=513`: 3,1,5.
     show(
-        b"root=0,0\nbranch=20\nwire=2\nneed=0\nsinks=513\nsink=10,0,100\nsink=4,6,60\nsink=10,10,70\n",
+        b"root=0,0\nbranch=20\nwire=2,2\nneed=0\nsinks=513\nsink=10,0,100\nsink=4,6,60\nsink=10,10,70\n",
     );
     show_512_sinks();
 }
@@ -114,25 +114,59 @@ fn show_lines() {
 // Positions at their limit and beyond, with the pin limit of 02's request 2.
 fn show_positions() {
     // X 100000 passes with a root near enough, else 13.
-    show(b"root=60000,0\nbranch=20\nwire=2\nneed=-2000000000000\nsinks=1\nsink=100000,0,100\n");
-    show(b"root=0,0\nbranch=20\nwire=2\nneed=-2000000000000\nsinks=1\nsink=100000,0,100\n");
+    show(b"root=60000,0\nbranch=20\nwire=2,2\nneed=-2000000000000\nsinks=1\nsink=100000,0,100\n");
+    show(b"root=0,0\nbranch=20\nwire=2,2\nneed=-2000000000000\nsinks=1\nsink=100000,0,100\n");
     // 100001: 3, in X and Y of the root and of a sink.
-    show(b"root=100001,0\nbranch=20\nwire=2\nneed=-2000000000000\nsinks=1\nsink=100000,0,100\n");
-    show(b"root=0,-100001\nbranch=20\nwire=2\nneed=-2000000000000\nsinks=1\nsink=0,-100000,100\n");
-    show(b"root=0,0\nbranch=20\nwire=2\nneed=-2000000000000\nsinks=1\nsink=100001,0,100\n");
-    show(b"root=0,100000\nbranch=20\nwire=2\nneed=-2000000000000\nsinks=1\nsink=0,100001,100\n");
-    // 40,000 from the root passes, 40,001: 13; by X alone, then by X and Y.
-    show(b"root=0,0\nbranch=20\nwire=2\nneed=-2000000000000\nsinks=1\nsink=40000,0,100\n");
-    show(b"root=0,0\nbranch=20\nwire=2\nneed=-2000000000000\nsinks=1\nsink=40001,0,100\n");
+    show(b"root=100001,0\nbranch=20\nwire=2,2\nneed=-2000000000000\nsinks=1\nsink=100000,0,100\n");
     show(
-        b"root=-10000,5000\nbranch=20\nwire=2\nneed=-2000000000000\nsinks=1\nsink=5000,-20000,100\n",
+        b"root=0,-100001\nbranch=20\nwire=2,2\nneed=-2000000000000\nsinks=1\nsink=0,-100000,100\n",
+    );
+    show(b"root=0,0\nbranch=20\nwire=2,2\nneed=-2000000000000\nsinks=1\nsink=100001,0,100\n");
+    show(b"root=0,100000\nbranch=20\nwire=2,2\nneed=-2000000000000\nsinks=1\nsink=0,100001,100\n");
+    // 40,000 from the root passes, 40,001: 13; by X alone, then by X and Y.
+    show(b"root=0,0\nbranch=20\nwire=2,2\nneed=-2000000000000\nsinks=1\nsink=40000,0,100\n");
+    show(b"root=0,0\nbranch=20\nwire=2,2\nneed=-2000000000000\nsinks=1\nsink=40001,0,100\n");
+    show(
+        b"root=-10000,5000\nbranch=20\nwire=2,2\nneed=-2000000000000\nsinks=1\nsink=5000,-20000,100\n",
     );
     show(
-        b"root=-10000,5000\nbranch=20\nwire=2\nneed=-2000000000000\nsinks=1\nsink=5000,-20001,100\n",
+        b"root=-10000,5000\nbranch=20\nwire=2,2\nneed=-2000000000000\nsinks=1\nsink=5000,-20001,100\n",
     );
     // A far pin, then a line that is misspelt: the first line that is refused.
     show(
-        b"root=0,0\nbranch=20\nwire=2\nneed=-2000000000000\nsinks=3\nsink=10,0,100\nsink=0,-40001,60\nsink=x\n",
+        b"root=0,0\nbranch=20\nwire=2,2\nneed=-2000000000000\nsinks=3\nsink=10,0,100\nsink=0,-40001,60\nsink=x\n",
+    );
+}
+
+// The two factors of 02's request 4.
+fn show_factors() {
+    // One number, three: 2,1,3.
+    show(
+        b"root=0,0\nbranch=20\nwire=2\nneed=0\nsinks=3\nsink=10,0,100\nsink=4,6,110\nsink=10,10,150\n",
+    );
+    show(
+        b"root=0,0\nbranch=20\nwire=2,6,2\nneed=0\nsinks=3\nsink=10,0,100\nsink=4,6,110\nsink=10,10,150\n",
+    );
+    // 1 and 10000 pass, 0 and 10001: 3,1,3.
+    show(b"root=0,0\nbranch=20\nwire=1,10000\nneed=-2000000000000\nsinks=1\nsink=3,4,100\n");
+    show(b"root=0,0\nbranch=20\nwire=10000,1\nneed=-2000000000000\nsinks=1\nsink=3,4,100\n");
+    show(b"root=0,0\nbranch=20\nwire=0,6\nneed=0\nsinks=1\nsink=3,4,100\n");
+    show(b"root=0,0\nbranch=20\nwire=2,0\nneed=0\nsinks=1\nsink=3,4,100\n");
+    show(b"root=0,0\nbranch=20\nwire=10001,6\nneed=0\nsinks=1\nsink=3,4,100\n");
+    show(b"root=0,0\nbranch=20\nwire=2,10001\nneed=0\nsinks=1\nsink=3,4,100\n");
+    // Both factors, then either alone: three trees.
+    show_listing(
+        b"root=0,0\nbranch=20\nwire=2,6\nneed=0\nsinks=3\nsink=10,0,100\nsink=4,6,110\nsink=10,10,150\n",
+    );
+    show_listing(
+        b"root=0,0\nbranch=20\nwire=2,2\nneed=0\nsinks=3\nsink=10,0,100\nsink=4,6,110\nsink=10,10,150\n",
+    );
+    show_listing(
+        b"root=0,0\nbranch=20\nwire=6,6\nneed=0\nsinks=3\nsink=10,0,100\nsink=4,6,110\nsink=10,10,150\n",
+    );
+    // Nearness stays plain: sink 3 joins sink 2, which is 4 micrometres off, and not sink 1, 6 off.
+    show_listing(
+        b"root=0,0\nbranch=20\nwire=2,6\nneed=-40\nsinks=3\nsink=10,4,44\nsink=4,0,8\nsink=4,4,32\n",
     );
 }
 
@@ -141,9 +175,10 @@ fn main() {
     show_positions();
     // Request 1 of 02: the edge above a branch point is the nearest; sink 2 is nearer than sink 1.
     show_listing(
-        b"root=0,0\nbranch=20\nwire=2\nneed=-40\nsinks=3\nsink=10,0,20\nsink=10,0,20\nsink=1,0,2\n",
+        b"root=0,0\nbranch=20\nwire=2,2\nneed=-40\nsinks=3\nsink=10,0,20\nsink=10,0,20\nsink=1,0,2\n",
     );
     show_listing(
-        b"root=0,0\nbranch=20\nwire=2\nneed=-40\nsinks=3\nsink=10,0,20\nsink=0,10,20\nsink=1,10,22\n",
+        b"root=0,0\nbranch=20\nwire=2,2\nneed=-40\nsinks=3\nsink=10,0,20\nsink=0,10,20\nsink=1,10,22\n",
     );
+    show_factors();
 }

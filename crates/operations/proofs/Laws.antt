@@ -7,4 +7,5 @@ pub mod Refusing
 pub mod Needless
 pub mod Demands
 pub mod FarPins
+pub mod TwoFactors
 pub mod Marked

@@ -4,6 +4,7 @@ pub mod Answers
 pub mod Refusing
 pub mod Demands
 pub mod FarPins
+pub mod TwoFactors
 pub mod Marked
 -- What serves the contracts of inner functions. Nothing of it need be believed.
 pub mod Inner

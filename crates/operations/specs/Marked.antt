@@ -1,4 +1,4 @@
--- The marked nets and lines of document 01 and those of requests 1 and 2 of 02, as one statement: what is said of texts here, the rest in the tree's own.
+-- The marked nets and lines of document 01, by 02's request 4 "restated with h = v", and those of its requests 1, 2 and 4, as one statement: what is said of texts here, the rest in the tree's own.
 use Prim.Native.Nat.{ℕ, _≤_}
 use mathlib.Core.Path.{_≡_}
 use mathlib.Core.List.{List, [], _∷_, _++_}
@@ -18,10 +18,10 @@ use Rattle.operations.specs.Answers.{planOf, planListing, judgeOf}
 
 -- A, and A with `need=1`
 abbrev pub textA : List ℕ
-textA = bytes "root=0,0\nbranch=20\nwire=2\nneed=0\nsinks=3\nsink=10,0,100\nsink=4,6,60\nsink=10,10,70\n"
+textA = bytes "root=0,0\nbranch=20\nwire=2,2\nneed=0\nsinks=3\nsink=10,0,100\nsink=4,6,60\nsink=10,10,70\n"
 
 abbrev pub textA1 : List ℕ
-textA1 = bytes "root=0,0\nbranch=20\nwire=2\nneed=1\nsinks=3\nsink=10,0,100\nsink=4,6,60\nsink=10,10,70\n"
+textA1 = bytes "root=0,0\nbranch=20\nwire=2,2\nneed=1\nsinks=3\nsink=10,0,100\nsink=4,6,60\nsink=10,10,70\n"
 
 -- "prints exactly, a line each"
 abbrev pub listingA : List ℕ
@@ -29,30 +29,37 @@ listingA = bytes "slack=0\nwire=32\nsinks=3\nleaf=1,5\nleaf=2,5\nleaf=3,4\nnode=
 
 -- "Three sinks at the root 0,0 with a = 0, c = 20, d = 2, t = -40"
 abbrev pub textThree : List ℕ
-textThree = bytes "root=0,0\nbranch=20\nwire=2\nneed=-40\nsinks=3\nsink=0,0,0\nsink=0,0,0\nsink=0,0,0\n"
+textThree = bytes "root=0,0\nbranch=20\nwire=2,2\nneed=-40\nsinks=3\nsink=0,0,0\nsink=0,0,0\nsink=0,0,0\n"
 
 abbrev pub listingThree : List ℕ
 listingThree = bytes "slack=-40\nwire=0\nsinks=3\nleaf=1,5\nleaf=2,4\nleaf=3,5\nnode=4,0,0,0\nnode=5,4,0,0\n"
 
 -- 02, request 1: the edge above a branch point is the nearest, and the nearer of two sinks
 abbrev pub textRootNearest : List ℕ
-textRootNearest = bytes "root=0,0\nbranch=20\nwire=2\nneed=-40\nsinks=3\nsink=10,0,20\nsink=10,0,20\nsink=1,0,2\n"
+textRootNearest = bytes "root=0,0\nbranch=20\nwire=2,2\nneed=-40\nsinks=3\nsink=10,0,20\nsink=10,0,20\nsink=1,0,2\n"
 
 abbrev pub listingRootNearest : List ℕ
 listingRootNearest = bytes "slack=-40\nwire=10\nsinks=3\nleaf=1,4\nleaf=2,4\nleaf=3,5\nnode=4,5,10,0\nnode=5,0,1,0\n"
 
 abbrev pub textNearerSink : List ℕ
-textNearerSink = bytes "root=0,0\nbranch=20\nwire=2\nneed=-40\nsinks=3\nsink=10,0,20\nsink=0,10,20\nsink=1,10,22\n"
+textNearerSink = bytes "root=0,0\nbranch=20\nwire=2,2\nneed=-40\nsinks=3\nsink=10,0,20\nsink=0,10,20\nsink=1,10,22\n"
 
 abbrev pub listingNearerSink : List ℕ
 listingNearerSink = bytes "slack=-40\nwire=21\nsinks=3\nleaf=1,4\nleaf=2,5\nleaf=3,5\nnode=4,0,0,0\nnode=5,4,0,10\n"
 
 -- 02, request 2: a net of one sink, by how its root and the sink's position are spelt, and the net that it is where both are in range
 abbrev pub pinText : String → String → List ℕ
-pinText root pin = bytes "root=" ++ (bytes root ++ (bytes "\nbranch=20\nwire=2\nneed=-2000000000000\nsinks=1\nsink=" ++ (bytes pin ++ bytes ",100\n")))
+pinText root pin = bytes "root=" ++ (bytes root ++ (bytes "\nbranch=20\nwire=2,2\nneed=-2000000000000\nsinks=1\nsink=" ++ (bytes pin ++ bytes ",100\n")))
 
 abbrev pub pinNet : Point → Point → Net
-pinNet root pin = record { root = root; branch = 20; wire = record { 0 = 2 }; need = negℤ (pos 2_000_000_000_000); sinks = record { point = pin; required = pos 100 } ∷ [] }
+pinNet root pin = record { root = root; branch = 20; wire = tree.metals 2 2; need = negℤ (pos 2_000_000_000_000); sinks = record { point = pin; required = pos 100 } ∷ [] }
+
+-- 02, request 4: the pins of A with other arrivals, by how the two factors are spelt, and the listing of its plan with h = 2 and v = 6
+abbrev pub metalsText : String → List ℕ
+metalsText factors = bytes "root=0,0\nbranch=20\nwire=" ++ (bytes factors ++ bytes "\nneed=0\nsinks=3\nsink=10,0,100\nsink=4,6,110\nsink=10,10,150\n")
+
+abbrev pub listingMetals : List ℕ
+listingMetals = bytes "slack=30\nwire=26\nsinks=3\nleaf=1,5\nleaf=2,4\nleaf=3,5\nnode=4,0,4,0\nnode=5,4,10,0\n"
 
 -- a net that is refused so by plan and by judge, whatever the output or the listing is
 pub record TurnedAway (net : List ℕ) (e : Refusal) : Type 0 where
@@ -84,9 +91,9 @@ pub record Marked : Type 0 where
   pub four-children : judgeOf textA (bytes "slack=0\nwire=32\nsinks=3\nleaf=1,4\nleaf=2,4\nleaf=3,4\nnode=4,0,4,0\nnode=5,4,4,0\n") ≡ refused (WrongChildren 7)
   -- "Empty net: 2,1,1. `branch=0`: 3,1,2. `need=-0`: 2,1,4. .. `sinks=513`: 3,1,5."
   pub empty-net : TurnedAway [] (NotDue InNet 1)
-  pub branch-0 : TurnedAway (bytes "root=0,0\nbranch=0\nwire=2\nneed=0\nsinks=3\nsink=10,0,100\nsink=4,6,60\nsink=10,10,70\n") (OutOfRange InNet 2)
-  pub need-minus-0 : TurnedAway (bytes "root=0,0\nbranch=20\nwire=2\nneed=-0\nsinks=3\nsink=10,0,100\nsink=4,6,60\nsink=10,10,70\n") (NotDue InNet 4)
-  pub sinks-513 : TurnedAway (bytes "root=0,0\nbranch=20\nwire=2\nneed=0\nsinks=513\nsink=10,0,100\nsink=4,6,60\nsink=10,10,70\n") (OutOfRange InNet 5)
+  pub branch-0 : TurnedAway (bytes "root=0,0\nbranch=0\nwire=2,2\nneed=0\nsinks=3\nsink=10,0,100\nsink=4,6,60\nsink=10,10,70\n") (OutOfRange InNet 2)
+  pub need-minus-0 : TurnedAway (bytes "root=0,0\nbranch=20\nwire=2,2\nneed=-0\nsinks=3\nsink=10,0,100\nsink=4,6,60\nsink=10,10,70\n") (NotDue InNet 4)
+  pub sinks-513 : TurnedAway (bytes "root=0,0\nbranch=20\nwire=2,2\nneed=0\nsinks=513\nsink=10,0,100\nsink=4,6,60\nsink=10,10,70\n") (OutOfRange InNet 5)
   -- the two nets of request 1, their whole listings, and that judge reads them back
   pub root-format : InFormat textRootNearest tree.rootNearest
   pub root-listing : planListing tree.rootNearest ≡ listingRootNearest
@@ -109,3 +116,20 @@ pub record Marked : Type 0 where
   -- the same where |dx| and |dy| both count
   pub both-at-limit : InFormat (pinText "-10000,5000" "5000,-20000") (pinNet (tree.point (negℤ (pos 10_000)) (pos 5_000)) (tree.point (pos 5_000) (negℤ (pos 20_000))))
   pub both-past-limit : TurnedAway (pinText "-10000,5000" "5000,-20001") (FarPin 6)
+  -- 02, request 4: two factors, the whole listing, and that judge reads it back; then the listings of either factor alone
+  pub metals-format : InFormat (metalsText "2,6") (tree.twoMetals 2 6)
+  pub metals-plan : (room : ℕ) → length listingMetals ≤ room → planOf (metalsText "2,6") room ≡ value (record { slack = pos 30; wire = 26; bytes = listingMetals })
+  pub metals-judge : judgeOf (metalsText "2,6") listingMetals ≡ value (record { slack = pos 30; wire = 26; best = pos 30 })
+  pub horizontal-alone : planListing (tree.twoMetals 2 2) ≡ bytes "slack=50\nwire=26\nsinks=3\nleaf=1,4\nleaf=2,5\nleaf=3,5\nnode=4,0,4,0\nnode=5,4,4,6\n"
+  pub vertical-alone : planListing (tree.twoMetals 6 6) ≡ bytes "slack=0\nwire=32\nsinks=3\nleaf=1,5\nleaf=2,5\nleaf=3,4\nnode=4,0,4,0\nnode=5,4,4,0\n"
+  -- "Wire length, nearness .. stay plain micrometres"
+  pub plain-listing : planListing tree.plainNearness ≡ bytes "slack=-40\nwire=18\nsinks=3\nleaf=1,4\nleaf=2,5\nleaf=3,5\nnode=4,0,4,0\nnode=5,4,4,0\n"
+  -- "The net line becomes `wire=h,v`": one number or three are 2,1,3
+  pub one-factor : TurnedAway (metalsText "2") (NotDue InNet 3)
+  pub three-factors : TurnedAway (metalsText "2,6,2") (NotDue InNet 3)
+  -- "each 1 to 10,000": else 3,1,3
+  pub factors-at-ends : InFormat (metalsText "1,10000") (tree.twoMetals 1 10_000)
+  pub horizontal-0 : TurnedAway (metalsText "0,6") (OutOfRange InNet 3)
+  pub vertical-0 : TurnedAway (metalsText "2,0") (OutOfRange InNet 3)
+  pub horizontal-10001 : TurnedAway (metalsText "10001,6") (OutOfRange InNet 3)
+  pub vertical-10001 : TurnedAway (metalsText "2,10001") (OutOfRange InNet 3)

@@ -14,7 +14,7 @@ impl Length {
         Length(micrometres)
     }
 
-    // The one way to a length's number: for the product with the wire factor and for what goes out. The gate lists every place that takes it.
+    // The one way to a length's number: for the product with a wire factor and for what goes out. The gate lists every place that takes it.
     pub fn micrometres(self) -> u64
         ensures { λ r. ⌜ r ≡ self .0 ⌝ }
     {

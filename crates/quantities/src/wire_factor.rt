@@ -1,11 +1,11 @@
-// The wire factor d, in femtoseconds per micrometre: "A length becomes a time only by multiplication with the wire factor."
+// A wire factor, in femtoseconds per micrometre: "A length becomes a time only by multiplication with the wire factor."
 ghost use mathlib.Core.Path.{_≡_};
+ghost use Prim.Native.Nat.{_*_, _≤_};
 ghost use lib.IntN.{pos};
-ghost use Rattle.quantities.specs.Ranges.{FactorWithin, PointWithin};
+ghost use Rattle.quantities.specs.Delay.{lengthDelay};
+ghost use Rattle.quantities.specs.Ranges.{FactorWithin};
 ghost use Rattle.quantities.specs.Inner.Reach.{factorReach, coordinateReach};
-ghost use Rattle.quantities.specs.Delay.{delay};
-use crate::point::Point;
-use crate::point::distance;
+use crate::length::Length;
 use crate::time::Time;
 
 pub struct WireFactor(u64);
@@ -17,12 +17,12 @@ impl WireFactor {
         WireFactor(femtoseconds_per_micrometre)
     }
 
-    // The delay of a straight wire from p to q.
-    pub fn delay(self, p: Point, q: Point) -> Time
-        requires { ⌜ FactorWithin factorReach self × PointWithin coordinateReach p × PointWithin coordinateReach q ⌝ }
-        ensures { λ r. ⌜ r .0 ≡ pos (delay self p q) ⌝ }
+    // The delay of so much wire in this factor's direction.
+    pub fn delay(self, length: Length) -> Time
+        requires { ⌜ FactorWithin factorReach self × (length .0 ≤ 2 * coordinateReach) ⌝ }
+        ensures { λ r. ⌜ r .0 ≡ pos (lengthDelay self (length .0)) ⌝ }
     {
-        let product = self.0 * distance(p, q).micrometres();
+        let product = self.0 * length.micrometres();
         Time::of(product as i64)
     }
 }

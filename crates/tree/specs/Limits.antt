@@ -1,5 +1,6 @@
 -- The ranges of document 01, 'The net text' and 'The tree listing', each once. Definitions alone.
 use Prim.Native.Nat.{ℕ, _≤_}
+use Rattle.quantities.specs.declared.wire_factor.WireFactor.{WireFactor}
 use Rattle.quantities.specs.Ranges.{Within, PointWithin, FactorWithin}
 use Rattle.tree.specs.Net.{Net, size, sinkAt, required}
 
@@ -11,7 +12,7 @@ positionLimit = 100_000
 abbrev pub branchLimit : ℕ
 branchLimit = 1_000_000
 
--- "d 1 to 10,000"
+-- 02, request 4: h and v, "each 1 to 10,000"
 abbrev pub wireFactorLimit : ℕ
 wireFactorLimit = 10_000
 
@@ -35,10 +36,13 @@ slackLimit = 4_000_000_000_000
 abbrev pub wireLimit : ℕ
 wireLimit = 1_000_000_000
 
+abbrev pub FactorInRange : WireFactor → Type 0
+FactorInRange f = (1 ≤ f .0) × FactorWithin wireFactorLimit f
+
 pub record InRange (N : Net) : Type 0 where
   pub root : PointWithin positionLimit (N .root)
   pub branch : (1 ≤ N .branch) × (N .branch ≤ branchLimit)
-  pub wire : (1 ≤ N .wire .0) × FactorWithin wireFactorLimit (N .wire)
+  pub wire : FactorInRange (N .wire .horizontal) × FactorInRange (N .wire .vertical)
   pub need : Within needLimit (N .need)
   pub sinks : (1 ≤ size N) × (size N ≤ sinkLimit)
   pub points : (s : ℕ) → 1 ≤ s → s ≤ size N → PointWithin positionLimit (sinkAt N s)

@@ -1,10 +1,11 @@
--- The marked nets of document 01, two of request 1 of 02, and the numbers of request 3, as far as they need no text: one statement.
+-- The marked nets of document 01, those of requests 1 and 4 of 02, and the numbers of request 3, as far as they need no text: one statement. By request 4 those of 01 are "restated with h = v".
 use Prim.Native.Nat.{ℕ, _<_}
 use mathlib.Core.Path.{_≡_}
 use mathlib.Core.List.{[], _∷_, map}
 use mathlib.Core.Option.{some, none}
 use lib.IntN.{ℤ, pos, negℤ}
 use lib.Signed.{_<ℤ_}
+use Rattle.quantities.specs.declared.metal_pair.MetalPair.{MetalPair}
 use Rattle.quantities.specs.declared.point.Point.{Point}
 use Rattle.quantities.specs.Median.{medianPoint}
 use Rattle.tree.specs.Net.{Net, Sink, ownSlacks}
@@ -22,12 +23,16 @@ point x y = record { x = x; y = y }
 abbrev pub sink : ℤ → ℤ → ℤ → Sink
 sink x y a = record { point = point x y; required = a }
 
+-- the factors h and v
+abbrev pub metals : ℕ → ℕ → MetalPair
+metals horizontal vertical = record { horizontal = record { 0 = horizontal }; vertical = record { 0 = vertical } }
+
 -- "A: `root=0,0`, `branch=20`, `wire=2`, `need=0`, `sinks=3`, `sink=10,0,100`, `sink=4,6,60`, `sink=10,10,70`."
 abbrev pub netA : Net
 netA = record {
   root = point (pos 0) (pos 0);
   branch = 20;
-  wire = record { 0 = 2 };
+  wire = metals 2 2;
   need = pos 0;
   sinks = sink (pos 10) (pos 0) (pos 100) ∷ (sink (pos 4) (pos 6) (pos 60) ∷ (sink (pos 10) (pos 10) (pos 70) ∷ []));
 }
@@ -37,14 +42,14 @@ abbrev pub threeAtRoot : Net
 threeAtRoot = record {
   root = point (pos 0) (pos 0);
   branch = 20;
-  wire = record { 0 = 2 };
+  wire = metals 2 2;
   need = negℤ (pos 40);
   sinks = sink (pos 0) (pos 0) (pos 0) ∷ (sink (pos 0) (pos 0) (pos 0) ∷ (sink (pos 0) (pos 0) (pos 0) ∷ []));
 }
 
 -- "One sink 3,4 from 0,0 with a = 10, d = 2"
 abbrev pub oneSink : ℕ → Net
-oneSink c = record { root = point (pos 0) (pos 0); branch = c; wire = record { 0 = 2 }; need = pos 0; sinks = sink (pos 3) (pos 4) (pos 10) ∷ [] }
+oneSink c = record { root = point (pos 0) (pos 0); branch = c; wire = metals 2 2; need = pos 0; sinks = sink (pos 3) (pos 4) (pos 10) ∷ [] }
 
 -- "Two sinks of own slack 5, c = 3": any such net
 pub record TwoSinks (N : Net) : Type 0 where
@@ -56,7 +61,7 @@ abbrev pub rootNearest : Net
 rootNearest = record {
   root = point (pos 0) (pos 0);
   branch = 20;
-  wire = record { 0 = 2 };
+  wire = metals 2 2;
   need = negℤ (pos 40);
   sinks = sink (pos 10) (pos 0) (pos 20) ∷ (sink (pos 10) (pos 0) (pos 20) ∷ (sink (pos 1) (pos 0) (pos 2) ∷ []));
 }
@@ -66,9 +71,29 @@ abbrev pub nearerSink : Net
 nearerSink = record {
   root = point (pos 0) (pos 0);
   branch = 20;
-  wire = record { 0 = 2 };
+  wire = metals 2 2;
   need = negℤ (pos 40);
   sinks = sink (pos 10) (pos 0) (pos 20) ∷ (sink (pos 0) (pos 10) (pos 20) ∷ (sink (pos 1) (pos 10) (pos 22) ∷ []));
+}
+
+-- 02, request 4: the pins of A with other arrivals, under the factors h and v
+abbrev pub twoMetals : ℕ → ℕ → Net
+twoMetals horizontal vertical = record {
+  root = point (pos 0) (pos 0);
+  branch = 20;
+  wire = metals horizontal vertical;
+  need = pos 0;
+  sinks = sink (pos 10) (pos 0) (pos 100) ∷ (sink (pos 4) (pos 6) (pos 110) ∷ (sink (pos 10) (pos 10) (pos 150) ∷ []));
+}
+
+-- 02, request 4, "nearness .. stay plain micrometres": all edges tie for sink 3, which is 6 from sink 1, straight across, and 4 from sink 2, straight up
+abbrev pub plainNearness : Net
+plainNearness = record {
+  root = point (pos 0) (pos 0);
+  branch = 20;
+  wire = metals 2 6;
+  need = negℤ (pos 40);
+  sinks = sink (pos 10) (pos 4) (pos 44) ∷ (sink (pos 4) (pos 0) (pos 8) ∷ (sink (pos 4) (pos 4) (pos 32) ∷ []));
 }
 
 pub record Marked : Type 0 where
@@ -92,7 +117,7 @@ pub record Marked : Type 0 where
   pub two-slack : (N : Net) → TwoSinks N → worstSlack N (plan N) ≡ pos 2
   pub two-best : (N : Net) → TwoSinks N → IsKraftMaximum (N .branch) (ownSlacks N) (pos 2)
   -- there are such nets
-  pub two-some : TwoSinks (record { root = point (pos 0) (pos 0); branch = 3; wire = record { 0 = 2 }; need = pos 0; sinks = sink (pos 1) (pos 0) (pos 7) ∷ (sink (pos 0) (pos 0) (pos 5) ∷ []) })
+  pub two-some : TwoSinks (record { root = point (pos 0) (pos 0); branch = 3; wire = metals 2 2; need = pos 0; sinks = sink (pos 1) (pos 0) (pos 7) ∷ (sink (pos 0) (pos 0) (pos 5) ∷ []) })
   -- the edge above branch point 4, counted at the root's position, is the nearest: parents of 1 to 5 are 4, 4, 5, 5, 0
   pub nearest-root : plan rootNearest ≡ record { parents = 4 ∷ (4 ∷ (5 ∷ (5 ∷ (0 ∷ [])))); points = point (pos 10) (pos 0) ∷ (point (pos 1) (pos 0) ∷ []) }
   pub nearest-root-slack : worstSlack rootNearest (plan rootNearest) ≡ negℤ (pos 40)
@@ -110,6 +135,18 @@ pub record Marked : Type 0 where
   -- three sinks at the root: "all edges tie for sink 3": those to 1, 2 and branch point 4, each with worst slack -40
   pub three-edges : lowerEnds 3 (sinksIn threeAtRoot 1) 1 ≡ 1 ∷ (2 ∷ (4 ∷ []))
   pub three-tried : map (worstWith threeAtRoot 1) (1 ∷ (2 ∷ (4 ∷ []))) ≡ negℤ (pos 40) ∷ (negℤ (pos 40) ∷ (negℤ (pos 40) ∷ []))
+  -- h = 2 and v = 6, then either of them alone: three trees
+  pub metals-own : ownSlacks (twoMetals 2 6) ≡ pos 80 ∷ (pos 66 ∷ (pos 70 ∷ []))
+  pub metals-tree : plan (twoMetals 2 6) ≡ record { parents = 5 ∷ (4 ∷ (5 ∷ (0 ∷ (4 ∷ [])))); points = point (pos 4) (pos 0) ∷ (point (pos 10) (pos 0) ∷ []) }
+  pub metals-slack : worstSlack (twoMetals 2 6) (plan (twoMetals 2 6)) ≡ pos 30
+  pub metals-wire : wireLength (twoMetals 2 6) (plan (twoMetals 2 6)) ≡ 26
+  pub metals-best : IsKraftMaximum 20 (ownSlacks (twoMetals 2 6)) (pos 30)
+  pub horizontal-alone : plan (twoMetals 2 2) ≡ record { parents = 4 ∷ (5 ∷ (5 ∷ (0 ∷ (4 ∷ [])))); points = point (pos 4) (pos 0) ∷ (point (pos 4) (pos 6) ∷ []) }
+  pub vertical-alone : plan (twoMetals 6 6) ≡ record { parents = 5 ∷ (5 ∷ (4 ∷ (0 ∷ (4 ∷ [])))); points = point (pos 4) (pos 0) ∷ (point (pos 4) (pos 0) ∷ []) }
+  -- the edges to 1, 2 and branch point 4 tie for sink 3, which splits that to sink 2; by the factors, 12 and 24, it would split that to sink 1
+  pub plain-tried : map (worstWith plainNearness 1) (1 ∷ (2 ∷ (4 ∷ []))) ≡ negℤ (pos 40) ∷ (negℤ (pos 40) ∷ (negℤ (pos 40) ∷ []))
+  pub plain-tree : plan plainNearness ≡ record { parents = 4 ∷ (5 ∷ (5 ∷ (0 ∷ (4 ∷ [])))); points = point (pos 4) (pos 0) ∷ (point (pos 4) (pos 0) ∷ []) }
+  pub plain-wire : wireLength plainNearness (plan plainNearness) ≡ 18
   -- "The median of 0,0 and 4,6 and 10,0 is 4,0."
   pub median-of-three : medianPoint (point (pos 0) (pos 0)) (point (pos 4) (pos 6)) (point (pos 10) (pos 0)) ≡ point (pos 4) (pos 0)
   -- "n = 3, parents of 1 to 5 are 0, 4, 5, 5, 4: 10,2,5": the counts are right, vertex 2 is not reached, so the tree is not legal

@@ -27,7 +27,7 @@ edgeLength N T v = distance (place N T (parent T v)) (place N T v)
 abbrev pub edgeDelay : Net → Tree → ℕ → ℕ
 edgeDelay N T v = delay (N .wire) (place N T (parent T v)) (place N T v)
 
--- "d × (sum of distances along its path)", edge by edge
+-- "d × (sum of distances along its path)", edge by edge and by request 4's two factors: "delay along an edge is h × |dx| + v × |dy|, in own slack as in path slack"
 abbrev pub pathDelay : Net → Tree → ℕ → ℕ
 pathDelay N T v = sumOver (path T v) (edgeDelay N T)
 

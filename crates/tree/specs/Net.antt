@@ -1,10 +1,10 @@
--- The net: document 01, 'The net text' and 'Measures'. Definitions alone.
+-- The net: document 01, 'The net text' and 'Measures', with the two wire factors of 02's request 4. Definitions alone.
 use Prim.Native.Nat.{ℕ, zero, suc, _-_}
 use mathlib.Core.List.{List, _∷_, map}
 use lib.ListN.{length, getD}
 use lib.IntN.{ℤ, pos, _-ℤ_}
+use Rattle.quantities.specs.declared.metal_pair.MetalPair.{MetalPair}
 use Rattle.quantities.specs.declared.point.Point.{Point}
-use Rattle.quantities.specs.declared.wire_factor.WireFactor.{WireFactor}
 use Rattle.quantities.specs.Delay.{delay}
 use Rattle.tree.specs.Lists.{range}
 
@@ -13,11 +13,11 @@ pub record Sink : Type 0 where
   pub point : Point
   pub required : ℤ
 
--- `root=X,Y`, `branch=c`, `wire=d`, `need=t`, and the sinks 1 to n
+-- `root=X,Y`, `branch=c`, `wire=h,v`, `need=t`, and the sinks 1 to n
 pub record Net : Type 0 where
   pub root : Point
   pub branch : ℕ
-  pub wire : WireFactor
+  pub wire : MetalPair
   pub need : ℤ
   pub sinks : List Sink
 
@@ -40,7 +40,7 @@ abbrev pub required : Net → ℕ → ℤ
 required N zero = pos 0
 required N (suc i) = getD (map (λ s. s .required) (N .sinks)) i (pos 0)
 
--- "Own slack a' of a sink = a - d × distance from the root."
+-- "Own slack a' of a sink = a - d × distance from the root", the product by request 4's two factors
 abbrev pub ownSlack : Net → ℕ → ℤ
 ownSlack N s = required N s -ℤ pos (delay (N .wire) (N .root) (sinkAt N s))
 

@@ -2,8 +2,10 @@
 //! with the stored listings.
 
 pub mod damage;
+pub mod decided;
 pub mod kinds;
 pub mod library;
+pub mod metals;
 pub mod near;
 pub mod nets;
 pub mod pins;

@@ -3,12 +3,12 @@
 use crate::nets::{of_slacks, shuffle};
 use crate::pins::{self, point};
 use crate::random::Random;
-use second_reference::net::{Net, COORDINATE, PIN_LIMIT};
+use second_reference::net::{Factors, Net, COORDINATE, PIN_LIMIT};
 use second_reference::tree::Point;
 
 /// A net of these points and own slacks, about the root.
 fn net(r: &mut Random, root: Point, branch: i64, sinks: Vec<(Point, i64)>) -> Net {
-    of_slacks(root, branch, r.between(1, 400), sinks)
+    of_slacks(root, branch, Factors::equal(r.between(1, 400)), sinks)
 }
 
 /// A net of these points and own slacks that leave many edges tied.

@@ -1,9 +1,13 @@
-//! Seeded nets of every character, all pins within the limit.
+//! Seeded nets of every character, all pins within the limit. Each shape has
+//! equal factors; `metals` gives it others.
 
+use crate::metals;
 use crate::near;
 use crate::pins::{self, point};
 use crate::random::Random;
-use second_reference::net::{Net, Sink, ARRIVAL, BRANCH, COORDINATE, NEED, PIN_LIMIT, SINKS, WIRE};
+use second_reference::net::{
+    Factors, Net, Sink, ARRIVAL, BRANCH, COORDINATE, NEED, PIN_LIMIT, SINKS, WIRE,
+};
 use second_reference::tree::Point;
 
 /// A need that every net reaches.
@@ -24,7 +28,7 @@ pub fn common(r: &mut Random, n: usize) -> Net {
     Net {
         root,
         branch: r.between(1, 50_000),
-        wire,
+        wire: Factors::equal(wire),
         need: LOW_NEED,
         sinks,
     }
@@ -40,16 +44,16 @@ pub fn tied(r: &mut Random, n: usize) -> Net {
     let sinks = (0..n)
         .map(|_| (point(r, spread), branch * r.between(0, kinds)))
         .collect();
-    of_slacks(root, branch, wire, sinks)
+    of_slacks(root, branch, Factors::equal(wire), sinks)
 }
 
 /// A net of these points and own slacks.
-pub fn of_slacks(root: Point, branch: i64, wire: i64, sinks: Vec<(Point, i64)>) -> Net {
+pub fn of_slacks(root: Point, branch: i64, wire: Factors, sinks: Vec<(Point, i64)>) -> Net {
     let sinks = sinks
         .into_iter()
         .map(|(at, own)| Sink {
             at,
-            arrival: own + wire * root.distance(at) as i64,
+            arrival: own + wire.delay(root, at) as i64,
         })
         .collect();
     Net {
@@ -100,7 +104,7 @@ pub fn extreme(r: &mut Random, n: usize) -> Net {
     Net {
         root,
         branch,
-        wire,
+        wire: Factors::equal(wire),
         need: LOW_NEED,
         sinks,
     }
@@ -143,7 +147,7 @@ pub fn longest() -> Net {
     Net {
         root: corner,
         branch: BRANCH.1,
-        wire: WIRE.1,
+        wire: Factors::equal(WIRE.1),
         need: NEED.0,
         sinks: vec![sink; SINKS.1 as usize],
     }
@@ -190,7 +194,7 @@ fn with_own_slacks(r: &mut Random, branch: i64, own: Vec<i64>) -> Net {
     let mut net = common(r, own.len());
     net.branch = branch;
     for (sink, own) in net.sinks.iter_mut().zip(own) {
-        sink.arrival = own + net.wire * net.root.distance(sink.at) as i64;
+        sink.arrival = own + net.wire.delay(net.root, sink.at) as i64;
     }
     net
 }
@@ -201,7 +205,13 @@ pub fn shuffle<T>(r: &mut Random, list: &mut [T]) {
     }
 }
 
+/// Any of these, mostly with factors that differ.
 pub fn any(r: &mut Random, n: usize) -> Net {
+    let net = even(r, n);
+    metals::any(r, net)
+}
+
+fn even(r: &mut Random, n: usize) -> Net {
     match r.index(8) {
         0 => common(r, n),
         1 => tied(r, n),

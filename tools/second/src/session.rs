@@ -1,12 +1,14 @@
 //! Runs cases on the library and on the references, counts them, and prints
 //! every disagreement so that it can be replayed.
 
+use crate::decided::Decided;
 use crate::library;
 use crate::planners::{Planner, GATHERED, PLAIN, SLOW};
 use second_reference::answer::Answer;
 use second_reference::gathered::Checked;
 use second_reference::listing::Listing;
 use second_reference::net::{Net, Sink, COORDINATE, PIN_LIMIT};
+use second_reference::tree::Tree;
 use second_reference::{gathered, kraft, plain, slow};
 use std::collections::BTreeMap;
 
@@ -67,6 +69,8 @@ pub struct Session {
     /// definitions.
     pub gathered_plans: u64,
     pub gathered: Checked,
+    /// Plans by what the two factors decide.
+    pub metals: Decided,
     pub disagreements: usize,
 }
 
@@ -115,8 +119,12 @@ impl Session {
         }
         if let Ok(read) = &read {
             if plain.answer.number == 0 {
-                self.count_split(read, plain.listing());
+                let tree = Listing::read(plain.listing(), read)
+                    .expect("a plan's listing")
+                    .tree;
+                self.count_split(read, &tree);
                 self.count_pins(read);
+                self.metals.count(read, &tree, small);
             }
             if !small {
                 self.compare_kraft(net, length, answer, read);
@@ -153,9 +161,8 @@ impl Session {
 
     /// The branch point that splits an edge is made after its lower end, so it
     /// has the higher number.
-    fn count_split(&mut self, net: &Net, listing: &[u8]) {
+    fn count_split(&mut self, net: &Net, tree: &Tree) {
         let n = net.sinks.len();
-        let tree = Listing::read(listing, net).expect("a plan's listing").tree;
         let split = (n + 1..2 * n).any(|v| tree.parent[v] > v);
         self.split_above_branch_point += u64::from(split);
     }

@@ -1,4 +1,4 @@
-//! Every shape of net that is drawn, by name.
+//! Every shape of net that is drawn, by name, and the nets that are given.
 
 use crate::near;
 use crate::nets;
@@ -26,34 +26,51 @@ pub const SHAPES: [(&str, Make); 16] = [
     ("path-near-root", near::path_near_root),
 ];
 
+/// Small nets of request 4: net A's pins, later due, with the factors in either
+/// order, and pins of which another is nearest if nearness is weighed.
+pub const METALS: [(&str, &[u8]); 3] = [
+    (
+        "two-metals-3",
+        b"root=0,0\nbranch=20\nwire=2,6\nneed=30\nsinks=3\nsink=10,0,100\nsink=4,6,110\nsink=10,10,150\n",
+    ),
+    (
+        "two-metals-exchanged-3",
+        b"root=0,0\nbranch=20\nwire=6,2\nneed=20\nsinks=3\nsink=10,0,100\nsink=4,6,110\nsink=10,10,150\n",
+    ),
+    (
+        "plain-nearness-3",
+        b"root=0,0\nbranch=20\nwire=2,6\nneed=-40\nsinks=3\nsink=10,4,44\nsink=4,0,8\nsink=4,4,32\n",
+    ),
+];
+
 /// The marked nets of 01 and of requests 1 and 2.
 pub const MARKED: [(&str, &[u8]); 7] = [
     (
         "marked-a-3",
-        b"root=0,0\nbranch=20\nwire=2\nneed=0\nsinks=3\nsink=10,0,100\nsink=4,6,60\nsink=10,10,70\n",
+        b"root=0,0\nbranch=20\nwire=2,2\nneed=0\nsinks=3\nsink=10,0,100\nsink=4,6,60\nsink=10,10,70\n",
     ),
     (
         "marked-at-root-3",
-        b"root=0,0\nbranch=20\nwire=2\nneed=-40\nsinks=3\nsink=0,0,0\nsink=0,0,0\nsink=0,0,0\n",
+        b"root=0,0\nbranch=20\nwire=2,2\nneed=-40\nsinks=3\nsink=0,0,0\nsink=0,0,0\nsink=0,0,0\n",
     ),
     (
         "marked-alone-1",
-        b"root=0,0\nbranch=20\nwire=2\nneed=-4\nsinks=1\nsink=3,4,10\n",
+        b"root=0,0\nbranch=20\nwire=2,2\nneed=-4\nsinks=1\nsink=3,4,10\n",
     ),
     (
         "marked-equal-2",
-        b"root=0,0\nbranch=3\nwire=1\nneed=2\nsinks=2\nsink=0,0,5\nsink=1,0,6\n",
+        b"root=0,0\nbranch=3\nwire=1,1\nneed=2\nsinks=2\nsink=0,0,5\nsink=1,0,6\n",
     ),
     (
         "marked-branch-point-nearest-3",
-        b"root=0,0\nbranch=20\nwire=2\nneed=-40\nsinks=3\nsink=10,0,20\nsink=10,0,20\nsink=1,0,2\n",
+        b"root=0,0\nbranch=20\nwire=2,2\nneed=-40\nsinks=3\nsink=10,0,20\nsink=10,0,20\nsink=1,0,2\n",
     ),
     (
         "marked-nearer-sink-3",
-        b"root=0,0\nbranch=20\nwire=2\nneed=-40\nsinks=3\nsink=10,0,20\nsink=0,10,20\nsink=1,10,22\n",
+        b"root=0,0\nbranch=20\nwire=2,2\nneed=-40\nsinks=3\nsink=10,0,20\nsink=0,10,20\nsink=1,10,22\n",
     ),
     (
         "marked-range-end-1",
-        b"root=60000,0\nbranch=20\nwire=2\nneed=-80000\nsinks=1\nsink=100000,0,0\n",
+        b"root=60000,0\nbranch=20\nwire=2,2\nneed=-80000\nsinks=1\nsink=100000,0,0\n",
     ),
 ];

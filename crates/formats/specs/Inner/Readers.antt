@@ -5,8 +5,8 @@ use mathlib.Core.Bool.{true}
 use mathlib.Core.List.{List, [], _∷_, map}
 use lib.ListN.{length, getD, drop, set}
 use lib.IntN.{ℤ, pos}
+use Rattle.quantities.specs.declared.metal_pair.MetalPair.{MetalPair}
 use Rattle.quantities.specs.declared.point.Point.{Point}
-use Rattle.quantities.specs.declared.wire_factor.WireFactor.{WireFactor}
 use Rattle.quantities.specs.Inner.Linear.{up}
 use Rattle.quantities.specs.Ranges.{PointWithin}
 use Rattle.tree.specs.declared.header.Header.{Header}
@@ -61,13 +61,13 @@ HeadSays o s (HeadRead h root n next) = (o ≡ value (record { got = headOf h ro
 HeadSays o s (HeadRefused e) = o ≡ refused e
 
 -- the lines from `sinks=` on, where those before it are read; then from each line before it on
-abbrev pub fromCount : Point → ℕ → WireFactor → ℤ → List ℕ → Outcome (Read Head)
-fromCount root c d t s =
+abbrev pub fromCount : Point → ℕ → MetalPair → ℤ → List ℕ → Outcome (Read Head)
+fromCount root c w t s =
     andThen (dueCount s) λ count.
-    value (record { got = record { root = root; branch = c; wire = d; need = t; count = count .got }; rest = count .rest })
+    value (record { got = record { root = root; branch = c; wire = w; need = t; count = count .got }; rest = count .rest })
 
-abbrev pub fromNeed : Point → ℕ → WireFactor → List ℕ → Outcome (Read Head)
-fromNeed root c d s = andThen (dueNeed s) λ need. fromCount root c d (need .got) (need .rest)
+abbrev pub fromNeed : Point → ℕ → MetalPair → List ℕ → Outcome (Read Head)
+fromNeed root c w s = andThen (dueNeed s) λ need. fromCount root c w (need .got) (need .rest)
 
 abbrev pub fromWire : Point → ℕ → List ℕ → Outcome (Read Head)
 fromWire root c s = andThen (dueWire s) λ wire. fromNeed root c (wire .got) (wire .rest)

@@ -4,16 +4,16 @@ use mathlib.Core.Bool.{true, false}
 use mathlib.Core.List.{List, [], _∷_}
 use lib.ListN.{length}
 use lib.Dec.{ltb}
-use lib.IntN.{ℤ}
+use lib.IntN.{ℤ, natAbs}
+use Rattle.quantities.specs.declared.metal_pair.MetalPair.{MetalPair}
 use Rattle.quantities.specs.declared.point.Point.{Point}
-use Rattle.quantities.specs.declared.wire_factor.WireFactor.{WireFactor}
 use Rattle.quantities.specs.Distance.{distance}
 use Rattle.tree.specs.Net.{Net, Sink}
-use Rattle.tree.specs.Limits.{branchLimit, wireFactorLimit, needLimit, sinkLimit}
+use Rattle.tree.specs.Limits.{branchLimit, needLimit, sinkLimit}
 use Rattle.formats.specs.Limits.{netLengthLimit, pinLimit}
 use Rattle.formats.specs.Outcome.{Outcome, value, refused, andThen}
 use Rattle.formats.specs.Ranges.{around, upTo, at}
-use Rattle.formats.specs.NetText.{rootKey, branchKey, wireKey, needKey, sinksKey, sinkKey, positionRanges, pointOf, sinkRanges}
+use Rattle.formats.specs.NetText.{rootKey, branchKey, wireKey, needKey, sinksKey, sinkKey, positionRanges, pointOf, factorRanges, sinkRanges}
 use Rattle.formats.specs.Reading.Lines.{Read, reading, due, dueNumber, dueNatural, ended}
 use Rattle.formats.specs.declared.refusal.Text.the-variants.{InNet}
 use Rattle.formats.specs.declared.refusal.Refusal.the-variants.{TooLong, FarPin}
@@ -22,9 +22,13 @@ use Rattle.formats.specs.declared.refusal.Refusal.the-variants.{TooLong,
 pub record Head : Type 0 where
   pub root : Point
   pub branch : ℕ
-  pub wire : WireFactor
+  pub wire : MetalPair
   pub need : ℤ
   pub count : ℕ
+
+-- a line's two numbers are the factors h and v
+abbrev pub metalsOf : List ℤ → MetalPair
+metalsOf zs = record { horizontal = record { 0 = natAbs (at zs 0) }; vertical = record { 0 = natAbs (at zs 1) } }
 
 -- one step for each kind of line
 abbrev pub dueRoot : List ℕ → Outcome (Read Point)
@@ -33,8 +37,8 @@ dueRoot s = reading pointOf (due InNet 1 rootKey positionRanges s)
 abbrev pub dueBranch : List ℕ → Outcome (Read ℕ)
 dueBranch s = dueNatural InNet 2 branchKey (upTo branchLimit) s
 
-abbrev pub dueWire : List ℕ → Outcome (Read WireFactor)
-dueWire s = reading (λ d. record { 0 = d }) (dueNatural InNet 3 wireKey (upTo wireFactorLimit) s)
+abbrev pub dueWire : List ℕ → Outcome (Read MetalPair)
+dueWire s = reading metalsOf (due InNet 3 wireKey factorRanges s)
 
 abbrev pub dueNeed : List ℕ → Outcome (Read ℤ)
 dueNeed s = dueNumber InNet 4 needKey (around needLimit) s

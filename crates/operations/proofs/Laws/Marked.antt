@@ -18,7 +18,7 @@ use Rattle.tree.specs.Measures.{worstSlack, wireLength}
 use Rattle.tree.specs.Kraft.{kraftMaximum, searchDown}
 use Rattle.tree.specs.Planning.{tieRule}
 use Rattle.tree.specs.Settling.{plan, planBy}
-use Rattle.tree.specs.Marked.{netA, threeAtRoot, rootNearest, nearerSink, point}
+use Rattle.tree.specs.Marked.{netA, threeAtRoot, rootNearest, nearerSink, twoMetals, point}
 use Rattle.tree.proofs.Laws.Planning.Marked as tree
 use Rattle.formats.specs.Bytes.{bytes}
 use Rattle.formats.specs.Decimal.{digits, showNat, show}
@@ -34,7 +34,7 @@ use Rattle.formats.specs.ListingText.{Listing, listingText}
 use Rattle.formats.specs.Reading.Listings.{readListing}
 use Rattle.operations.specs.Accepting.{acceptTree}
 use Rattle.operations.specs.Answers.{planOf, planListing, planNet, judgement, judgeOf, Judgement}
-use Rattle.operations.specs.Marked.{textA, textA1, listingA, textThree, listingThree, textRootNearest, listingRootNearest, textNearerSink, listingNearerSink, pinText, TurnedAway, Marked}
+use Rattle.operations.specs.Marked.{textA, textA1, listingA, textThree, listingThree, textRootNearest, listingRootNearest, textNearerSink, listingNearerSink, pinText, metalsText, listingMetals, TurnedAway, Marked}
 use Rattle.formats.proofs.Laws.Nets.NetTexts.{net-sound}
 use Rattle.operations.proofs.Laws.Answers.{plan-refused, judge-refused, Ends, unreachable, short, written, ends}
 use Rattle.operations.proofs.Laws.Judging.{judge-read}
@@ -159,8 +159,26 @@ unfolding readListing numberThen rowIn begins lineIn field natural digitsValue l
 sink-judged = judged-over textNearerSink nearerSink read-sink listingNearerSink
     (record { slack = negℤ (pos 40); wire = 21; tree = record { parents = 4 ∷ (5 ∷ (5 ∷ (0 ∷ (4 ∷ [])))); points = point (pos 0) (pos 0) ∷ (point (pos 0) (pos 10) ∷ []) } }) refl
 
+-- ---- the nets of request 4
+
+read-metals : readNet (metalsText "2,6") ≡ value (twoMetals 2 6)
+unfolding readNet numberThen rowIn begins lineIn field natural digitsValue lead distance span
+read-metals = refl
+
+plan-metals : planListing (twoMetals 2 6) ≡ listingMetals
+unfolding planListing listingText digits showNat show worstSlack wireLength plan planBy tieRule minℤ maxℤ median medianPoint delay distance span
+plan-metals = refl
+
+metals-planned : (room : ℕ) → length listingMetals ≤ room → planOf (metalsText "2,6") room ≡ value (record { slack = pos 30; wire = 26; bytes = listingMetals })
+metals-planned = planned-over (metalsText "2,6") (twoMetals 2 6) read-metals (pos 30) 26 listingMetals (tree.marked .metals-slack) (tree.marked .metals-wire) plan-metals (omega (arith, whole))
+
+metals-judged : judgeOf (metalsText "2,6") listingMetals ≡ value (record { slack = pos 30; wire = 26; best = pos 30 })
+unfolding readListing numberThen rowIn begins lineIn field natural digitsValue lead worstSlack wireLength minℤ delay distance span kraftMaximum searchDown floorDiv
+metals-judged = judged-over (metalsText "2,6") (twoMetals 2 6) read-metals listingMetals
+    (record { slack = pos 30; wire = 26; tree = record { parents = 5 ∷ (4 ∷ (5 ∷ (0 ∷ (4 ∷ [])))); points = point (pos 4) (pos 0) ∷ (point (pos 10) (pos 0) ∷ []) } }) refl
+
 pub marked : Marked
-unfolding listed tree-of readNet readListing numberThen rowIn begins lineIn field natural digitsValue lead worstSlack wireLength minℤ delay distance span
+unfolding listed tree-of planListing listingText digits showNat show readNet readListing numberThen rowIn begins lineIn field natural digitsValue lead worstSlack wireLength plan planBy tieRule minℤ maxℤ median medianPoint delay distance span
 marked = record {
   measures = tree.marked;
   A-format = net-sound textA netA read-A;
@@ -197,4 +215,17 @@ marked = record {
   past-limit = turned-away (pinText "0,0" "40001,0") (FarPin 6) refl;
   both-at-limit = net-sound (pinText "-10000,5000" "5000,-20000") _ refl;
   both-past-limit = turned-away (pinText "-10000,5000" "5000,-20001") (FarPin 6) refl;
+  metals-format = net-sound (metalsText "2,6") (twoMetals 2 6) read-metals;
+  metals-plan = metals-planned;
+  metals-judge = metals-judged;
+  horizontal-alone = refl;
+  vertical-alone = refl;
+  plain-listing = refl;
+  one-factor = turned-away (metalsText "2") (NotDue InNet 3) refl;
+  three-factors = turned-away (metalsText "2,6,2") (NotDue InNet 3) refl;
+  factors-at-ends = net-sound (metalsText "1,10000") _ refl;
+  horizontal-0 = turned-away (metalsText "0,6") (OutOfRange InNet 3) refl;
+  vertical-0 = turned-away (metalsText "2,0") (OutOfRange InNet 3) refl;
+  horizontal-10001 = turned-away (metalsText "10001,6") (OutOfRange InNet 3) refl;
+  vertical-10001 = turned-away (metalsText "2,10001") (OutOfRange InNet 3) refl;
 }

@@ -1,34 +1,58 @@
--- The laws of the delay of a straight wire. Everything above rests on these alone, and not on the delay's definition. Assumes nothing.
+-- The laws of the delay of a straight wire, each shown for one direction first. Everything above rests on these alone, and not on the delay's definition. Assumes nothing.
 use Prim.Native.Nat.{ℕ, _+_, _*_, _≤_}
 use mathlib.Core.Path.{_≡_, ap, _∙_}
 use native.Mathlib.Nat.{mul-add, mul-zero, mul-le-mul, mul-le-mul-left}
 use native.Mathlib.Omega.{arith}
+use lib.IntN.{ℤ}
+use Rattle.quantities.specs.declared.metal_pair.MetalPair.{MetalPair}
 use Rattle.quantities.specs.declared.point.Point.{Point}
 use Rattle.quantities.specs.declared.wire_factor.WireFactor.{WireFactor}
-use Rattle.quantities.specs.Distance.{distance}
-use Rattle.quantities.specs.Delay.{delay}
-use Rattle.quantities.specs.Median.{medianPoint}
-use Rattle.quantities.specs.Ranges.{PointWithin, FactorWithin}
-use Rattle.quantities.proofs.Laws.Distance.{distance-self, triangle, distance-within}
-use Rattle.quantities.proofs.Laws.Median.{distance-through-median, median-point-swap}
+use Rattle.quantities.specs.Distance.{span}
+use Rattle.quantities.specs.Delay.{lengthDelay, delay}
+use Rattle.quantities.specs.Median.{median, medianPoint}
+use Rattle.quantities.specs.Ranges.{Within, PointWithin, FactorWithin, FactorsWithin}
+use Rattle.quantities.proofs.Laws.Distance.{span-self, span-triangle, span-within}
+use Rattle.quantities.proofs.Laws.Median.{span-through-median, median-point-swap}
 
-pub delay-self : (w : WireFactor) (p : Point) → delay w p p ≡ 0
+-- ---- in one direction
+
+module _ (f : WireFactor) where
+  along-self : (a : ℤ) → lengthDelay f (span a a) ≡ 0
+  along-self a = ap (lengthDelay f) (span-self a) ∙ mul-zero (f .0)
+
+  along-triangle : (a b c : ℤ) → lengthDelay f (span a c) ≤ lengthDelay f (span a b) + lengthDelay f (span b c)
+  along-triangle a b c = omega (arith, mul-le-mul-left (f .0) (span-triangle a b c), mul-add (f .0) (span a b) (span b c))
+
+  along-median : (a b c : ℤ) → lengthDelay f (span a (median a b c)) + lengthDelay f (span (median a b c) b) ≡ lengthDelay f (span a b)
+  along-median a b c = omega (arith, ap (lengthDelay f) (span-through-median a b c), mul-add (f .0) (span a (median a b c)) (span (median a b c) b))
+
+  pub along-within : (m k : ℕ) (a b : ℤ) → FactorWithin m f → Within k a → Within k b → lengthDelay f (span a b) ≤ m * (2 * k)
+  along-within m k a b h p q = mul-le-mul h (span-within k a b p q)
+
+-- ---- and in both
+
+module _ (w : MetalPair) where
+  pub delay-self : (p : Point) → delay w p p ≡ 0
+  unfolding delay
+  delay-self p = omega (arith, along-self (w .horizontal) (p .x), along-self (w .vertical) (p .y))
+
+  pub delay-triangle : (p q r : Point) → delay w p r ≤ delay w p q + delay w q r
+  unfolding delay
+  delay-triangle p q r = omega (arith, along-triangle (w .horizontal) (p .x) (q .x) (r .x), along-triangle (w .vertical) (p .y) (q .y) (r .y))
+
+  -- a median of p, q and a third point lies on a shortest way from p to q
+  pub delay-through-median : (p q r : Point) → delay w p (medianPoint p q r) + delay w (medianPoint p q r) q ≡ delay w p q
+  unfolding delay medianPoint
+  delay-through-median p q r = omega (arith, along-median (w .horizontal) (p .x) (q .x) (r .x), along-median (w .vertical) (p .y) (q .y) (r .y))
+
+  pub delay-through-median₂ : (p q r : Point) → delay w p (medianPoint p q r) + delay w (medianPoint p q r) r ≡ delay w p r
+  delay-through-median₂ p q r = rw (median-point-swap p q r) (delay-through-median p r q)
+
+-- a bound: between points in a range, with factors in a range
+pub delay-within : (m k : ℕ) (w : MetalPair) (p q : Point) → FactorsWithin m w → PointWithin k p → PointWithin k q → delay w p q ≤ m * (4 * k)
 unfolding delay
-delay-self w p = ap (λ l. w .0 * l) (distance-self p) ∙ mul-zero (w .0)
-
-pub delay-triangle : (w : WireFactor) (p q r : Point) → delay w p r ≤ delay w p q + delay w q r
-unfolding delay
-delay-triangle w p q r = omega (arith, mul-le-mul-left (w .0) (triangle p q r), mul-add (w .0) (distance p q) (distance q r))
-
--- a median of p, q and a third point lies on a shortest way from p to q
-pub delay-through-median : (w : WireFactor) (p q r : Point) → delay w p (medianPoint p q r) + delay w (medianPoint p q r) q ≡ delay w p q
-unfolding delay
-delay-through-median w p q r = omega (arith, ap (λ l. w .0 * l) (distance-through-median p q r), mul-add (w .0) (distance p (medianPoint p q r)) (distance (medianPoint p q r) q))
-
-pub delay-through-median₂ : (w : WireFactor) (p q r : Point) → delay w p (medianPoint p q r) + delay w (medianPoint p q r) r ≡ delay w p r
-delay-through-median₂ w p q r = rw (median-point-swap p q r) (delay-through-median w p r q)
-
--- a bound: between points in a range, with a factor in a range
-pub delay-within : (m k : ℕ) (w : WireFactor) (p q : Point) → FactorWithin m w → PointWithin k p → PointWithin k q → delay w p q ≤ m * (4 * k)
-unfolding delay
-delay-within m k w p q h a b = mul-le-mul h (distance-within k p q a b)
+delay-within m k w p q h a b =
+    omega (arith, along-within (w .horizontal) m k (p .x) (q .x) (h .0) (a .0) (b .0), along-within (w .vertical) m k (p .y) (q .y) (h .1) (a .1) (b .1), mul-add m (2 * k) (2 * k), ap (λ l. m * l) (four k))
+  where
+    four : (k : ℕ) → 2 * k + 2 * k ≡ 4 * k
+    four k = omega arith

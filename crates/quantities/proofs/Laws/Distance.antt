@@ -21,13 +21,13 @@ span-le {a} {b} h = omega (arith, whole, span-is a b)
 pub span-ge : {a b : ℤ} → b ≤ℤ a → span a b + (up b + dn a) ≡ up a + dn b
 span-ge {a} {b} h = omega (arith, whole, span-is a b)
 
-span-self : (a : ℤ) → span a a ≡ 0
+pub span-self : (a : ℤ) → span a a ≡ 0
 span-self a = omega (arith, span-is a a)
 
 span-symmetric : (a b : ℤ) → span a b ≡ span b a
 span-symmetric a b = omega (arith, span-is a b, span-is b a)
 
-span-triangle : (a b c : ℤ) → span a c ≤ span a b + span b c
+pub span-triangle : (a b c : ℤ) → span a c ≤ span a b + span b c
 span-triangle a b c = omega (arith, span-is a b, span-is b c, span-is a c)
 
 pub span-within : (k : ℕ) (a b : ℤ) → Within k a → Within k b → span a b ≤ 2 * k

@@ -7,7 +7,7 @@ use lib.IntN.{ℤ}
 use lib.Signed.{_≤ℤ_}
 use Rattle.quantities.specs.declared.point.Point.{Point}
 use Rattle.quantities.specs.MinMax.{minℤ, maxℤ}
-use Rattle.quantities.specs.Distance.{span, distance}
+use Rattle.quantities.specs.Distance.{span}
 use Rattle.quantities.specs.Median.{median, medianPoint}
 use Rattle.quantities.specs.Inner.Box.{InBox}
 use Rattle.quantities.specs.Inner.Linear.{up, dn, whole}
@@ -49,7 +49,7 @@ median-in-range : (low high a b c : ℤ) → (low ≤ℤ a) × (a ≤ℤ high) �
 median-in-range low high a b c f g h = omega (arith, whole, median-is a b c)
 
 -- |a - m| + |m - b| = |a - b| for the median m of a, b and a third
-span-through-median : (a b c : ℤ) → span a (median a b c) + span (median a b c) b ≡ span a b
+pub span-through-median : (a b c : ℤ) → span a (median a b c) + span (median a b c) b ≡ span a b
 span-through-median a b c =
     ⊎-elim
     (λ h. let k : a ≤ℤ b = omega (arith, whole) in omega (arith, span-le (h .0), span-le (h .1), span-le k))
@@ -63,11 +63,6 @@ median-in-box low high p q r f g h = record {
   x = median-in-range (low .x) (high .x) (p .x) (q .x) (r .x) (f .x) (g .x) (h .x);
   y = median-in-range (low .y) (high .y) (p .y) (q .y) (r .y) (f .y) (g .y) (h .y);
 }
-
--- the median of p, q and a third lies on a shortest way from p to q
-pub distance-through-median : (p q r : Point) → distance p (medianPoint p q r) + distance (medianPoint p q r) q ≡ distance p q
-unfolding distance medianPoint
-distance-through-median p q r = omega (arith, span-through-median (p .x) (q .x) (r .x), span-through-median (p .y) (q .y) (r .y))
 
 -- the order of the last two does not matter: in each order of the three both medians are the middle one
 median-swap : (a b c : ℤ) → median a b c ≡ median a c b

@@ -8,7 +8,7 @@ use lib.IntN.{ℤ, pos}
 use Rattle.quantities.specs.Delay.{delay}
 use Rattle.quantities.specs.Inner.Linear.{up}
 use Rattle.quantities.specs.MinMax.{minℤ}
-use Rattle.quantities.specs.Ranges.{FactorWithin}
+use Rattle.quantities.specs.Ranges.{FactorsWithin}
 use Rattle.tree.specs.declared.header.Header.{Header}
 use Rattle.tree.specs.declared.measure.Tally.{Tally}
 use Rattle.tree.specs.Lists.{sumOver, range, least}
@@ -21,9 +21,9 @@ use Rattle.tree.specs.Inner.Arrays.{pointAt, lengthAbove}
 abbrev pub slackAt : List ℤ → ℕ → ℤ
 slackAt slacks s = getD slacks s (pos 0)
 
--- c and d are in their ranges
+-- c, h and v are in their ranges
 abbrev pub CostsInRange : Header → Type 0
-CostsInRange h = FactorWithin wireFactorLimit (h .wire) × (1 ≤ up (h .branch .0)) × (up (h .branch .0) ≤ branchLimit)
+CostsInRange h = FactorsWithin wireFactorLimit (h .wire) × (1 ≤ up (h .branch .0)) × (up (h .branch .0) ≤ branchLimit)
 
 -- what the edge whose lower end is v costs: its delay, and c where v is a branch point
 abbrev pub costAbove : Header → ℕ → List ℕ → List ℤ → List ℤ → ℕ → ℕ

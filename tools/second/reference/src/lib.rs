@@ -22,4 +22,6 @@ pub mod tree;
 #[cfg(test)]
 mod marked_tests;
 #[cfg(test)]
+mod metal_tests;
+#[cfg(test)]
 mod random_tests;

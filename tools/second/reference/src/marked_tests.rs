@@ -11,12 +11,12 @@ node=4,0,4,0\nnode=5,4,4,0\n";
 
 fn a(need: &str) -> String {
     format!(
-        "root=0,0\nbranch=20\nwire=2\nneed={need}\nsinks=3\n\
+        "root=0,0\nbranch=20\nwire=2,2\nneed={need}\nsinks=3\n\
          sink=10,0,100\nsink=4,6,60\nsink=10,10,70\n"
     )
 }
 
-fn plan(net: &str) -> (Answer, String) {
+pub(crate) fn plan(net: &str) -> (Answer, String) {
     let mut out = vec![b'?'; 30_000];
     let answer = slow::plan(net.as_bytes(), &mut out);
     for plan in [plain::plan, gathered::plan] {
@@ -33,7 +33,7 @@ fn plan(net: &str) -> (Answer, String) {
     (answer, String::from_utf8(out[..written].to_vec()).unwrap())
 }
 
-fn refusal(answer: Answer) -> (u8, u8, usize) {
+pub(crate) fn refusal(answer: Answer) -> (u8, u8, usize) {
     assert_eq!((answer.slack, answer.wire, answer.last), (0, 0, 0));
     (answer.number, answer.text, answer.line)
 }
@@ -42,7 +42,7 @@ fn refused_plan(net: &str) -> (u8, u8, usize) {
     refusal(plan(net).0)
 }
 
-fn judge(net: &str, listing: &str) -> Answer {
+pub(crate) fn judge(net: &str, listing: &str) -> Answer {
     let answer = slow::judge(net.as_bytes(), listing.as_bytes());
     assert_eq!(answer, plain::judge(net.as_bytes(), listing.as_bytes()));
     answer
@@ -94,7 +94,7 @@ fn gathered_for_net_a() {
 #[test]
 fn three_sinks_at_the_root() {
     let net = format!(
-        "root=0,0\nbranch=20\nwire=2\nneed=-40\nsinks=3\n{}",
+        "root=0,0\nbranch=20\nwire=2,2\nneed=-40\nsinks=3\n{}",
         "sink=0,0,0\n".repeat(3)
     );
     let (answer, text) = plan(&net);
@@ -106,7 +106,7 @@ fn three_sinks_at_the_root() {
 /// edge above branch point 4 is split.
 #[test]
 fn a_branch_point_is_nearest() {
-    let net = "root=0,0\nbranch=20\nwire=2\nneed=-40\nsinks=3\n\
+    let net = "root=0,0\nbranch=20\nwire=2,2\nneed=-40\nsinks=3\n\
                sink=10,0,20\nsink=10,0,20\nsink=1,0,2\n";
     let (answer, text) = plan(net);
     assert_eq!((answer.slack, answer.wire), (-40, 10));
@@ -118,7 +118,7 @@ fn a_branch_point_is_nearest() {
 /// root.
 #[test]
 fn the_nearer_of_two_sinks() {
-    let net = "root=0,0\nbranch=20\nwire=2\nneed=-40\nsinks=3\n\
+    let net = "root=0,0\nbranch=20\nwire=2,2\nneed=-40\nsinks=3\n\
                sink=10,0,20\nsink=0,10,20\nsink=1,10,22\n";
     let (answer, text) = plan(net);
     assert_eq!((answer.slack, answer.wire), (-40, 21));
@@ -128,7 +128,7 @@ fn the_nearer_of_two_sinks() {
 /// The root is as near to sink 3 as sink 2 is: the sink has the lower number.
 #[test]
 fn a_sink_as_near_as_the_root() {
-    let net = "root=0,0\nbranch=20\nwire=2\nneed=-40\nsinks=3\n\
+    let net = "root=0,0\nbranch=20\nwire=2,2\nneed=-40\nsinks=3\n\
                sink=-10,0,20\nsink=4,4,16\nsink=6,-1,14\n";
     let (answer, text) = plan(net);
     assert_eq!((answer.slack, answer.wire), (-40, 21));
@@ -138,7 +138,7 @@ fn a_sink_as_near_as_the_root() {
 #[test]
 fn one_sink() {
     for c in [1, 20, 1_000_000] {
-        let net = format!("root=0,0\nbranch={c}\nwire=2\nneed=-4\nsinks=1\nsink=3,4,10\n");
+        let net = format!("root=0,0\nbranch={c}\nwire=2,2\nneed=-4\nsinks=1\nsink=3,4,10\n");
         let (answer, text) = plan(&net);
         assert_eq!((answer.slack, answer.wire), (-4, 7));
         assert_eq!(judge(&net, &text).last, -4);
@@ -181,12 +181,12 @@ fn refused_nets() {
 }
 
 /// A net of one sink, its root and its sink so spelt.
-fn one(root: &str, sink: &str) -> String {
-    format!("root={root}\nbranch=20\nwire=2\nneed=-2000000000000\nsinks=1\nsink={sink},0\n")
+pub(crate) fn one(root: &str, sink: &str) -> String {
+    format!("root={root}\nbranch=20\nwire=2,2\nneed=-2000000000000\nsinks=1\nsink={sink},0\n")
 }
 
 /// What plan says, and judge of the plan's listing or of none: the same.
-fn told(net: &str) -> (u8, u8, usize) {
+pub(crate) fn told(net: &str) -> (u8, u8, usize) {
     let (answer, listing) = plan(net);
     let judged = judge(net, &listing);
     let told = (judged.number, judged.text, judged.line);
@@ -244,7 +244,7 @@ fn a_far_pin_and_another_fault() {
 
 #[test]
 fn full_net() {
-    let head = "root=0,0\nbranch=20\nwire=2\nneed=-2000000000000\nsinks=512\n";
+    let head = "root=0,0\nbranch=20\nwire=2,2\nneed=-2000000000000\nsinks=512\n";
     let net = format!("{head}{}", "sink=1,1,5\n".repeat(512));
     let mut out = vec![0; 24_576];
     let answer = plain::plan(net.as_bytes(), &mut out);

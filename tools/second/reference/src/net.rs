@@ -20,13 +20,46 @@ pub struct Sink {
     pub arrival: i64,
 }
 
+/// Femtoseconds that a micrometre costs, in each of the metal directions.
+#[derive(Clone, Copy, Debug, PartialEq, Eq)]
+pub struct Factors {
+    /// h, along x.
+    pub horizontal: i64,
+    /// v, along y.
+    pub vertical: i64,
+}
+
+impl Factors {
+    pub fn new(horizontal: i64, vertical: i64) -> Factors {
+        Factors {
+            horizontal,
+            vertical,
+        }
+    }
+
+    /// The same in both directions.
+    pub fn equal(factor: i64) -> Factors {
+        Factors::new(factor, factor)
+    }
+
+    pub fn exchanged(self) -> Factors {
+        Factors::new(self.vertical, self.horizontal)
+    }
+
+    /// 02, request 4: "delay along an edge is h × |dx| + v × |dy|, in own
+    /// slack as in path slack".
+    pub fn delay(self, p: Point, q: Point) -> i128 {
+        let (dx, dy) = ((p.x - q.x).abs(), (p.y - q.y).abs());
+        self.horizontal as i128 * dx + self.vertical as i128 * dy
+    }
+}
+
 #[derive(Clone, Debug, PartialEq, Eq)]
 pub struct Net {
     pub root: Point,
     /// c
     pub branch: i64,
-    /// d
-    pub wire: i64,
+    pub wire: Factors,
     /// t
     pub need: i64,
     pub sinks: Vec<Sink>,
@@ -37,7 +70,7 @@ impl Net {
         let mut lines = Lines::new(bytes, 1, LENGTH)?;
         let root = read_point(&mut lines)?;
         let branch = read_one(&mut lines, "branch=", BRANCH)?;
-        let wire = read_one(&mut lines, "wire=", WIRE)?;
+        let wire = read_factors(&mut lines)?;
         let need = read_one(&mut lines, "need=", NEED)?;
         let count = read_one(&mut lines, "sinks=", SINKS)?;
         let mut sinks = Vec::new();
@@ -57,8 +90,8 @@ impl Net {
     pub fn text(&self) -> Vec<u8> {
         let mut text = format!("root={},{}\n", self.root.x, self.root.y);
         text += &format!(
-            "branch={}\nwire={}\nneed={}\n",
-            self.branch, self.wire, self.need
+            "branch={}\nwire={},{}\nneed={}\n",
+            self.branch, self.wire.horizontal, self.wire.vertical, self.need
         );
         text += &format!("sinks={}\n", self.sinks.len());
         for sink in &self.sinks {
@@ -70,7 +103,7 @@ impl Net {
     /// a' of sink k, 1 to n.
     pub fn own_slack(&self, k: usize) -> i128 {
         let sink = &self.sinks[k - 1];
-        sink.arrival as i128 - self.wire as i128 * self.root.distance(sink.at)
+        sink.arrival as i128 - self.wire.delay(self.root, sink.at)
     }
 
     pub fn own_slacks(&self) -> Vec<i128> {
@@ -91,6 +124,15 @@ fn read_one(lines: &mut Lines, key: &str, range: (i64, i64)) -> Result<i64, Refu
     let value = lines.value(numbers[0], range.0, range.1)?;
     lines.step();
     Ok(value)
+}
+
+/// 02, request 4: "The net line becomes `wire=h,v`, each 1 to 10,000".
+fn read_factors(lines: &mut Lines) -> Result<Factors, Refusal> {
+    let numbers = lines.due("wire=", 2)?;
+    let horizontal = lines.value(numbers[0], WIRE.0, WIRE.1)?;
+    let vertical = lines.value(numbers[1], WIRE.0, WIRE.1)?;
+    lines.step();
+    Ok(Factors::new(horizontal, vertical))
 }
 
 /// 02, request 2: "A sink more than 40,000 micrometres from the root is

@@ -3,7 +3,7 @@
 
 use crate::answer::{Answer, Refusal};
 use crate::kraft;
-use crate::net::{Net, Sink};
+use crate::net::{Factors, Net, Sink};
 use crate::tree::Point;
 use crate::{gathered, plain, slow};
 
@@ -18,6 +18,18 @@ impl Random {
     }
 }
 
+/// Small ones, at times far apart in either order.
+fn random_factors(r: &mut Random) -> Factors {
+    let (mut one, mut two) = (1 + r.below(4), 1 + r.below(4));
+    if r.below(4) == 0 {
+        (one, two) = (1, 10_000);
+    }
+    if r.below(2) == 0 {
+        (one, two) = (two, one);
+    }
+    Factors::new(one, two)
+}
+
 /// A net whose pins are drawn about its root.
 fn random_net(r: &mut Random, spread: i64, pin: impl Fn(&mut Random, Point) -> Point) -> Net {
     let n = 1 + r.below(14);
@@ -28,11 +40,10 @@ fn random_net(r: &mut Random, spread: i64, pin: impl Fn(&mut Random, Point) -> P
             arrival: r.below(20 * spread) - 5 * spread,
         })
         .collect();
-    let (branch, wire) = (1 + r.below(spread), 1 + r.below(4));
     Net {
         root,
-        branch,
-        wire,
+        branch: 1 + r.below(spread),
+        wire: random_factors(r),
         need: -2_000_000_000_000,
         sinks,
     }
@@ -119,6 +130,46 @@ fn gathered_numbers_are_as_defined() {
             (checked.vertices, checked.edges),
             (n * (n - 1), (n - 1) * (n - 1))
         );
+    }
+}
+
+/// The net whose x and y are exchanged, and its factors with them.
+fn mirrored(net: &Net) -> Net {
+    let over = |p: Point| Point { x: p.y, y: p.x };
+    let mut other = net.clone();
+    other.root = over(net.root);
+    other.sinks.iter_mut().for_each(|s| s.at = over(s.at));
+    other.wire = net.wire.exchanged();
+    other
+}
+
+#[test]
+fn a_mirrored_net_has_the_mirrored_plan() {
+    let mut r = Random(4);
+    for round in 0..600 {
+        let net = net_of_round(&mut r, round);
+        let (one, two) = (slow::planned(&net), slow::planned(&mirrored(&net)));
+        assert_eq!(one.parent, two.parent);
+        let pairs = one.point.iter().zip(&two.point);
+        assert!(pairs.clone().all(|(p, q)| (p.x, p.y) == (q.y, q.x)));
+    }
+}
+
+/// A micrometre that costs h is h that cost 1, but for nearness and wire.
+#[test]
+fn own_slacks_are_those_of_stretched_nets() {
+    let mut r = Random(7);
+    for round in 0..600 {
+        let net = net_of_round(&mut r, round);
+        let mut other = net.clone();
+        let stretched = |p: Point| Point {
+            x: p.x * net.wire.horizontal as i128,
+            y: p.y * net.wire.vertical as i128,
+        };
+        other.wire = Factors::equal(1);
+        other.root = stretched(net.root);
+        other.sinks.iter_mut().for_each(|s| s.at = stretched(s.at));
+        assert_eq!(net.own_slacks(), other.own_slacks());
     }
 }
 

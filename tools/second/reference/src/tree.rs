@@ -17,6 +17,7 @@ impl Point {
         }
     }
 
+    /// In plain micrometres: of wire, of nearness, of the pin limit.
     pub fn distance(self, other: Point) -> i128 {
         (self.x - other.x).abs() + (self.y - other.y).abs()
     }
@@ -79,14 +80,12 @@ pub fn branch_points_above(tree: &Tree, v: usize) -> i128 {
 
 /// Slack of sink k over a legal tree.
 pub fn slack(net: &Net, tree: &Tree, k: usize) -> i128 {
-    let length: i128 = path(tree, k)
+    let delay: i128 = path(tree, k)
         .take_while(|&v| v != 0)
-        .map(|v| tree.point[v].distance(tree.point[tree.parent[v]]))
+        .map(|v| net.wire.delay(tree.point[v], tree.point[tree.parent[v]]))
         .sum();
     let sink = &net.sinks[k - 1];
-    sink.arrival as i128
-        - net.wire as i128 * length
-        - net.branch as i128 * branch_points_above(tree, k)
+    sink.arrival as i128 - delay - net.branch as i128 * branch_points_above(tree, k)
 }
 
 /// The children of each vertex, of those given.

@@ -14,12 +14,12 @@ use second_reference::{plain, slow};
 use second_tool::random::Random;
 use second_tool::shapes::Make;
 use second_tool::timing::{compare, median};
-use second_tool::{near, nets, trees};
+use second_tool::{metals, near, nets, trees};
 use std::hint::black_box;
 use std::process::ExitCode;
 use std::time::{Duration, Instant};
 
-const SHAPES: [(&str, Make); 9] = [
+const SHAPES: [(&str, Make); 11] = [
     ("common", nets::common),
     ("tied", nets::tied),
     ("falling", nets::falling),
@@ -29,6 +29,8 @@ const SHAPES: [(&str, Make); 9] = [
     ("path, deep", near::deep),
     ("near root", near::tree_near_root),
     ("path near root", near::path_near_root),
+    ("two metals", metals::common),
+    ("metals, spread", metals::spread_out),
 ];
 /// Both sides of the least size of the arrays among them.
 const SIZES: [usize; 8] = [1, 5, 12, 16, 17, 50, 200, 512];
@@ -262,7 +264,7 @@ fn timed(nets: &[Vec<u8>], out: &mut [u8], plan: fn(&[u8], &mut [u8])) -> Durati
     start.elapsed()
 }
 
-/// Different nets, made in chunks outside the timed stretches. The median chunk
+/// Different nets, every other with factors that differ, made in chunks outside the timed stretches. The median chunk
 /// tells the rate of a machine that does nothing else.
 fn million() {
     const CHUNK: usize = 500;
@@ -271,7 +273,7 @@ fn million() {
     let (mut library, mut plain) = (Vec::new(), Vec::new());
     for _ in 0..1_000_000 / CHUNK {
         let nets: Vec<Vec<u8>> = (0..CHUNK)
-            .map(|_| nets::common(&mut r, 12).text())
+            .map(|i| [nets::common, metals::common][i % 2](&mut r, 12).text())
             .collect();
         library.push(timed(&nets, &mut out, library_plan).as_secs_f64());
         plain.push(timed(&nets, &mut out, plain_plan).as_secs_f64());

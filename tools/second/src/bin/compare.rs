@@ -112,6 +112,12 @@ fn print_counts(s: &Session) {
         "plans with a pin just at the limit: {}, at an end of the range: {}",
         s.pin_at_limit, s.pin_at_end
     );
+    let metals = &s.metals;
+    println!(
+        "plans with factors that differ: {}; of {} of these another tree by weighed nearness: {}, \
+         by either factor in both directions: {}",
+        metals.differing, metals.tried, metals.nearness, metals.both
+    );
     let total = s.total();
     println!(
         "measured by the tool itself: {} rival trees against the library's best; on {} nets \

@@ -4,6 +4,7 @@
 use super::planned::plan_and_judge;
 use super::spoilt::spoilt;
 use crate::damage;
+use crate::metals;
 use crate::nets::{self, line_of};
 use crate::pins;
 use crate::random::Random;
@@ -15,7 +16,7 @@ use second_reference::slow;
 use second_reference::tree::Point;
 
 /// Plan and judge both refuse the net so, whatever the output and the listing.
-fn refused(s: &mut Session, r: &mut Random, net: &[u8], number: u8, line: usize) {
+pub fn refused(s: &mut Session, r: &mut Random, net: &[u8], number: u8, line: usize) {
     let length = r.pick(&[0, 60, LISTING_LENGTH]);
     let listing = r.pick(&[&b""[..], b"slack=0\nwire=0\nsinks=1\nleaf=1,0\n", net]);
     let planned = s.plan(net, length).answer;
@@ -82,7 +83,7 @@ fn all_at(r: &mut Random, root: Point, distance: i64) -> Vec<Point> {
 /// middle.
 pub fn range_ends(s: &mut Session, r: &mut Random) {
     let n = r.between(1, 4) as usize;
-    let (mut net, i) = (nets::common(r, n), r.index(n));
+    let (mut net, i) = (metals::drawn(r, nets::common, n), r.index(n));
     let any = r.between(1, PIN_LIMIT - 1);
     let aside = r.pick(&[0, any]);
     let low = r.between(-COORDINATE, COORDINATE - aside);
@@ -146,8 +147,10 @@ pub fn faults(s: &mut Session, r: &mut Random) {
     for (k, at) in damage::numbers(&text).into_iter().enumerate() {
         let line = match k {
             0 | 1 => 1,
-            2..=5 => k,
-            _ => line_of((k - 6) / 3),
+            2 => 2,
+            3 | 4 => 3,
+            5 | 6 => k - 1,
+            _ => line_of((k - 7) / 3),
         };
         for (by, number) in [(&b"-0"[..], 2), (b"9999999999999", 3)] {
             let other = damage::replaced(&text, at.clone(), by);

@@ -1,5 +1,6 @@
 //! Listings of random trees.
 
+use crate::metals;
 use crate::nets;
 use crate::random::Random;
 use crate::session::Session;
@@ -66,7 +67,8 @@ pub fn wrong_n(s: &mut Session, r: &mut Random) {
     } else {
         r.between(1, 20) as usize
     };
-    let (net, rival) = (nets::common(r, n), nets::common(r, other));
+    let net = metals::drawn(r, nets::common, n);
+    let rival = metals::drawn(r, nets::common, other);
     let bytes = random_listing(r, &rival).text();
     let answer = s.judge(&net.text(), &bytes);
     let right = (answer.number == 7) == (n != other);
@@ -83,7 +85,7 @@ pub fn wrong_n(s: &mut Session, r: &mut Random) {
 /// counts, sinks as parents.
 pub fn rings(s: &mut Session, r: &mut Random) {
     let n = r.pick(&[2, 3, 4, 6, 10, 40, 130]);
-    let net = nets::common(r, n);
+    let net = metals::drawn(r, nets::common, n);
     let text = net.text();
     let listing = random_listing(r, &net);
     for _ in 0..4 {

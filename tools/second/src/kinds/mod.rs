@@ -3,8 +3,10 @@
 mod enumerated;
 mod far;
 mod listings;
+mod metals;
 mod planned;
 mod spoilt;
+mod wire_line;
 
 use crate::random::Random;
 use crate::session::Session;
@@ -57,4 +59,10 @@ pub const ALL: &[Kind] = &[
     kind("far-cuts", 20, far::cuts),
     kind("far-listings", 5, far::listings),
     kind("spoilt-far", 1, far::spoilt_nets),
+    kind("metals-apart", 1, metals::far_apart),
+    kind("metal-ties", 1, metals::ties),
+    kind("metal-nearness", 1, metals::nearness),
+    kind("mirrored", 1, metals::mirrored),
+    kind("metal-listings", 1, metals::listings),
+    kind("wire-line", 20, wire_line::all),
 ];

@@ -1,10 +1,11 @@
 //! Nets that are planned, and whose plans are judged.
 
+use crate::metals;
 use crate::near;
 use crate::nets;
 use crate::random::Random;
 use crate::session::Session;
-use crate::shapes::{MARKED, SHAPES};
+use crate::shapes::{MARKED, METALS, SHAPES};
 use repeater_tree::LISTING_LENGTH;
 use second_reference::kraft;
 use second_reference::net::{Net, NEED};
@@ -46,7 +47,7 @@ pub fn plan_and_judge(s: &mut Session, net: &Net) {
 }
 
 pub fn marked(s: &mut Session, _: &mut Random) {
-    for (_, text) in MARKED {
+    for (_, text) in MARKED.iter().chain(&METALS) {
         let Ok(mut net) = Net::read(text) else {
             s.disagree("the slow reference refuses a marked net", &[("net", text)]);
             continue;
@@ -59,17 +60,17 @@ pub fn marked(s: &mut Session, _: &mut Random) {
 
 pub fn random(s: &mut Session, r: &mut Random) {
     let n = r.between(1, 60) as usize;
-    plan_and_judge(s, &nets::common(r, n));
+    plan_and_judge(s, &metals::drawn(r, nets::common, n));
 }
 
 pub fn ties(s: &mut Session, r: &mut Random) {
     let n = r.between(2, 40) as usize;
-    plan_and_judge(s, &nets::tied(r, n));
+    plan_and_judge(s, &metals::drawn(r, nets::tied, n));
 }
 
 pub fn coincident(s: &mut Session, r: &mut Random) {
     let n = r.between(2, 40) as usize;
-    plan_and_judge(s, &nets::coincident(r, n));
+    plan_and_judge(s, &metals::drawn(r, nets::coincident, n));
 }
 
 pub fn extremes(s: &mut Session, r: &mut Random) {
@@ -78,7 +79,7 @@ pub fn extremes(s: &mut Session, r: &mut Random) {
     } else {
         r.between(1, 40) as usize
     };
-    plan_and_judge(s, &nets::extreme(r, n));
+    plan_and_judge(s, &metals::drawn(r, nets::extreme, n));
 }
 
 pub fn longest(s: &mut Session, _: &mut Random) {
@@ -87,11 +88,11 @@ pub fn longest(s: &mut Session, _: &mut Random) {
 
 pub fn path_like(s: &mut Session, r: &mut Random) {
     let n = r.pick(&[3, 17, 24, 60, 150]);
-    plan_and_judge(s, &nets::path_like(r, n));
+    plan_and_judge(s, &metals::drawn(r, nets::path_like, n));
 }
 
 /// Mostly within the slow plan's reach, now and then up to the most sinks.
-fn near_size(r: &mut Random) -> usize {
+pub fn near_size(r: &mut Random) -> usize {
     match r.index(40) {
         0 => r.between(201, 512) as usize,
         1..=4 => r.between(25, 200) as usize,
@@ -101,26 +102,26 @@ fn near_size(r: &mut Random) -> usize {
 
 pub fn few_spots(s: &mut Session, r: &mut Random) {
     let n = near_size(r);
-    plan_and_judge(s, &near::few_spots(r, n));
+    plan_and_judge(s, &metals::drawn(r, near::few_spots, n));
 }
 
 pub fn spread_out(s: &mut Session, r: &mut Random) {
     let n = near_size(r);
-    plan_and_judge(s, &near::spread_out(r, n));
+    plan_and_judge(s, &metals::drawn(r, near::spread_out, n));
 }
 
 pub fn as_near(s: &mut Session, r: &mut Random) {
     let n = near_size(r);
-    plan_and_judge(s, &near::as_near(r, n));
+    plan_and_judge(s, &metals::drawn(r, near::as_near, n));
 }
 
 pub fn near_root(s: &mut Session, r: &mut Random) {
     let n = near_size(r);
-    plan_and_judge(s, &near::near_root(r, n));
+    plan_and_judge(s, &metals::drawn(r, near::near_root, n));
 }
 
 pub fn near_full(s: &mut Session, r: &mut Random) {
-    plan_and_judge(s, &near::any(r, 512));
+    plan_and_judge(s, &metals::drawn(r, near::any, 512));
 }
 
 pub fn full(s: &mut Session, r: &mut Random) {
@@ -136,7 +137,7 @@ pub fn small(s: &mut Session, r: &mut Random) {
 pub fn gathered(s: &mut Session, r: &mut Random) {
     let n = r.between(1, slow::MOST_SINKS as i64) as usize;
     let (_, make) = r.pick(&SHAPES);
-    let net = make(r, n);
+    let net = metals::drawn(r, make, n);
     plan_and_judge(s, &net);
     s.check_gathered(&net);
 }

@@ -1,6 +1,7 @@
 //! Texts that are damaged in every way.
 
 use crate::damage;
+use crate::metals;
 use crate::nets;
 use crate::random::Random;
 use crate::session::Session;
@@ -98,7 +99,7 @@ pub fn numbers(s: &mut Session, r: &mut Random) {
     }
     // In a corner a pin at the end of the range is near enough.
     let n = r.between(1, 4) as usize;
-    let (net, listing) = texts_of(s, &nets::cornered(r, n));
+    let (net, listing) = texts_of(s, &metals::drawn(r, nets::cornered, n));
     net_numbers(s, &net, &listing);
 }
 

@@ -10,9 +10,15 @@ use std::process::Stdio;
 
 /// The order's net A, and the listing of its plan.
 pub const A: &str =
-    "root=0,0\nbranch=20\nwire=2\nneed=0\nsinks=3\nsink=10,0,100\nsink=4,6,60\nsink=10,10,70\n";
+    "root=0,0\nbranch=20\nwire=2,2\nneed=0\nsinks=3\nsink=10,0,100\nsink=4,6,60\nsink=10,10,70\n";
 pub const LISTING: &str =
     "slack=0\nwire=32\nsinks=3\nleaf=1,5\nleaf=2,5\nleaf=3,4\nnode=4,0,4,0\nnode=5,4,4,0\n";
+
+/// A's pins, later due, where a micrometre upward costs three times as much.
+const TWO_METALS: &str =
+    "root=0,0\nbranch=20\nwire=2,6\nneed=0\nsinks=3\nsink=10,0,100\nsink=4,6,110\nsink=10,10,150\n";
+const TWO_METALS_LISTING: &str =
+    "slack=30\nwire=26\nsinks=3\nleaf=1,5\nleaf=2,4\nleaf=3,5\nnode=4,0,4,0\nnode=5,4,10,0\n";
 
 /// A file that a program finds: none, a folder, or a text.
 enum Found {
@@ -105,6 +111,19 @@ fn plans() -> Vec<Case> {
             "refused=3,1,2\n",
             "standard input:2: a number is out of range\n",
         ),
+        plan("plan two metals", TWO_METALS, TWO_METALS_LISTING, ""),
+        plan(
+            "plan wire=2",
+            &with("wire=2,2", "wire=2"),
+            "refused=2,1,3\n",
+            "standard input:3: the line due here is missing, lacks its newline, or is misspelt\n",
+        ),
+        plan(
+            "plan wire=2,0",
+            &with("wire=2,2", "wire=2,0"),
+            "refused=3,1,3\n",
+            "standard input:3: a number is out of range\n",
+        ),
         plan(
             "plan a far pin",
             &with("sink=4,6,60", "sink=40000,1,60"),
@@ -189,6 +208,20 @@ fn net_files() -> Vec<Case> {
             text("no listing"),
             "refused=1,1,0\n",
             long,
+        ),
+        judge(
+            "judge two metals",
+            text(TWO_METALS),
+            text(TWO_METALS_LISTING),
+            "slack=30\nwire=26\nbest=30\n",
+            "",
+        ),
+        judge(
+            "judge over wire=2",
+            Found::Text(with("wire=2,2", "wire=2")),
+            text(LISTING),
+            "refused=2,1,3\n",
+            "net.txt:3: the line due here is missing, lacks its newline, or is misspelt\n",
         ),
     ]
 }

@@ -1,4 +1,4 @@
-//! The places where a length's number is taken. Only the product with the wire
+//! The places where a length's number is taken. Only the product with a wire
 //! factor may make a time of a length, and this number is the one way round it,
 //! so every place is listed.
 

@@ -34,6 +34,7 @@ fn limits(s: &mut Sources) -> &mut String {
 
 const WRITER: &str = "crates/formats/src/write_listing.rt";
 const PRODUCT: &str = "crates/quantities/src/wire_factor.rt";
+const PAIR: &str = "crates/quantities/src/metal_pair.rt";
 const MEASURES: &str = "crates/tree/src/measure.rt";
 
 fn writer(s: &mut Sources) -> &mut String {
@@ -42,6 +43,10 @@ fn writer(s: &mut Sources) -> &mut String {
 
 fn product(s: &mut Sources) -> &mut String {
     s.code.get_mut(PRODUCT).unwrap()
+}
+
+fn pair(s: &mut Sources) -> &mut String {
+    s.code.get_mut(PAIR).unwrap()
 }
 
 fn measures(s: &mut Sources) -> &mut String {
@@ -290,17 +295,26 @@ fn a_listed_file_that_is_gone_is_told() {
     );
 }
 
-/// In the product without its factor, and in a file that is listed.
+/// In the product without its factor, in the pair without it, and in a file
+/// that is listed.
 #[test]
 fn a_time_made_of_a_length_is_told() {
     let made = "a time is made of a length's number";
     told(
         planted(
             product,
-            "let product = self.0 * distance(p, q).micrometres();\n        Time::of(product as i64)",
-            "Time::of((distance(p, q).micrometres()) as i64)",
+            "let product = self.0 * length.micrometres();\n        Time::of(product as i64)",
+            "Time::of((length.micrometres()) as i64)",
         ),
         &format!("{PRODUCT}: {made}"),
+    );
+    told(
+        planted(
+            pair,
+            "self.vertical.delay(span(p.y, q.y))",
+            "Time::of(span(p.y, q.y).micrometres() as i64)",
+        ),
+        &format!("{PAIR}: {made}"),
     );
     told(
         planted(

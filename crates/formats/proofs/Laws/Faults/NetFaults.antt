@@ -12,13 +12,13 @@ use borrow.Author.Tests.{ltb-true, ltb-false, lt-ltb, le-ltb}
 use Rattle.quantities.specs.declared.point.Point.{Point}
 use Rattle.quantities.specs.Distance.{distance}
 use Rattle.tree.specs.Net.{Net, Sink}
-use Rattle.tree.specs.Limits.{branchLimit, wireFactorLimit, needLimit, sinkLimit}
+use Rattle.tree.specs.Limits.{branchLimit, needLimit, sinkLimit}
 use Rattle.formats.specs.Limits.{netLengthLimit, pinLimit}
 use Rattle.formats.specs.Outcome.{Outcome, value, refused, andThen}
 use Rattle.formats.specs.Ranges.{around, upTo, at}
 use Rattle.formats.specs.Reading.Lines.{Read}
-use Rattle.formats.specs.NetText.{rootKey, branchKey, wireKey, needKey, sinksKey, sinkKey, positionRanges, sinkRanges, pointOf, InFormat}
-use Rattle.formats.specs.Reading.Nets.{sinkOf, nearOnly, Head, dueRoot, dueBranch, dueWire, dueNeed, dueCount, dueSink, readSinks, readRest, netWith, readNetLines, readNet}
+use Rattle.formats.specs.NetText.{rootKey, branchKey, wireKey, needKey, sinksKey, sinkKey, positionRanges, factorRanges, sinkRanges, pointOf, InFormat}
+use Rattle.formats.specs.Reading.Nets.{sinkOf, nearOnly, Head, metalsOf, dueRoot, dueBranch, dueWire, dueNeed, dueCount, dueSink, readSinks, readRest, netWith, readNetLines, readNet}
 use Rattle.formats.specs.Inner.Readers.{fromCount, fromNeed, fromWire, fromBranch}
 use Rattle.formats.specs.Faults.{near, Bars, far-pin, plain, end, sinkLines, linesOfNet, NetFault, too-long, on-line}
 use Rattle.formats.specs.TextAnswers.{NetAnswered}
@@ -74,7 +74,7 @@ rest-told h s =
 
 -- the head that the numbers of its lines say
 abbrev headOf : List ℤ → List ℤ → List ℤ → List ℤ → List ℤ → Head
-headOf root branch wire need count = record { root = pointOf root; branch = natAbs (at branch 0); wire = record { 0 = natAbs (at wire 0) }; need = at need 0; count = natAbs (at count 0) }
+headOf root branch wire need count = record { root = pointOf root; branch = natAbs (at branch 0); wire = metalsOf wire; need = at need 0; count = natAbs (at count 0) }
 
 net-told : (s : List ℕ) → Told InNet linesOfNet 1 s (readNetLines s)
 net-told s =
@@ -82,9 +82,9 @@ net-told s =
     (then-told InNet 1 (plain rootKey positionRanges) s (omega arith) pointOf _ _ (dueRoot s) (reading-tried pointOf (due-tried InNet 1 rootKey positionRanges s (omega arith))) λ root s₁ g₁.
     retold (then-then (dueBranch s₁) (λ c. fromWire (pointOf root) (c .got) (c .rest)) afterHead)
     (then-told InNet 2 (plain branchKey (upTo branchLimit ∷ [])) s₁ (omega arith) (λ zs. natAbs (at zs 0)) _ _ (dueBranch s₁) (natural-tried InNet 2 branchKey (upTo branchLimit) s₁) λ branch s₂ g₂.
-    retold (then-then (dueWire s₂) (λ d. fromNeed (pointOf root) (natAbs (at branch 0)) (d .got) (d .rest)) afterHead)
-    (then-told InNet 3 (plain wireKey (upTo wireFactorLimit ∷ [])) s₂ (omega arith) (λ zs. record { 0 = natAbs (at zs 0) }) _ _ (dueWire s₂) (reading-tried (λ d. record { 0 = d }) (natural-tried InNet 3 wireKey (upTo wireFactorLimit) s₂)) λ wire s₃ g₃.
-    retold (then-then (dueNeed s₃) (λ t. fromCount (pointOf root) (natAbs (at branch 0)) (record { 0 = natAbs (at wire 0) }) (t .got) (t .rest)) afterHead)
+    retold (then-then (dueWire s₂) (λ w. fromNeed (pointOf root) (natAbs (at branch 0)) (w .got) (w .rest)) afterHead)
+    (then-told InNet 3 (plain wireKey factorRanges) s₂ (omega arith) metalsOf _ _ (dueWire s₂) (reading-tried metalsOf (due-tried InNet 3 wireKey factorRanges s₂ (omega arith))) λ wire s₃ g₃.
+    retold (then-then (dueNeed s₃) (λ t. fromCount (pointOf root) (natAbs (at branch 0)) (metalsOf wire) (t .got) (t .rest)) afterHead)
     (then-told InNet 4 (plain needKey (around needLimit ∷ [])) s₃ (omega arith) (λ zs. at zs 0) _ _ (dueNeed s₃) (number-tried InNet 4 needKey (around needLimit) s₃) λ need s₄ g₄.
     retold (then-then (dueCount s₄) _ afterHead)
     (then-told InNet 5 (plain sinksKey (upTo sinkLimit ∷ [])) s₄ (omega arith) (λ zs. natAbs (at zs 0)) _ _ (dueCount s₄) (natural-tried InNet 5 sinksKey (upTo sinkLimit) s₄) λ count s₅ g₅.

@@ -7,16 +7,16 @@ use lib.IntN.{ℤ, pos, natAbs}
 use native.Mathlib.Omega.{arith}
 use borrow.Author.Tests.{lt-ltb, le-ltb}
 use Rattle.quantities.specs.Inner.Linear.{up, whole, natAbs-is, one-part}
+use Rattle.quantities.specs.declared.metal_pair.MetalPair.{MetalPair}
 use Rattle.quantities.specs.declared.point.Point.{Point}
-use Rattle.quantities.specs.declared.wire_factor.WireFactor.{WireFactor}
 use Rattle.quantities.specs.Ranges.{PointWithin}
 use Rattle.tree.specs.declared.header.Header.{Header}
-use Rattle.tree.specs.Limits.{positionLimit, branchLimit, wireFactorLimit, needLimit, sinkLimit}
+use Rattle.tree.specs.Limits.{positionLimit, branchLimit, needLimit, sinkLimit}
 use Rattle.formats.specs.Limits.{netLengthLimit}
 use Rattle.formats.specs.Outcome.{Outcome, value, refused, andThen}
 use Rattle.formats.specs.Ranges.{around, upTo}
 use Rattle.formats.specs.Reading.Lines.{inside, Read, dueNumber}
-use Rattle.formats.specs.NetText.{rootKey, branchKey, wireKey, needKey, sinksKey, positionRanges}
+use Rattle.formats.specs.NetText.{rootKey, branchKey, wireKey, needKey, sinksKey, positionRanges, factorRanges}
 use Rattle.formats.specs.Reading.Nets.{Head, readHead, readRest, netWith, readNet}
 use Rattle.formats.specs.Inner.Readers.{NumberTaken, headOf, HeadSays, NetHeadSays, fromBranch, fromWire, fromNeed, fromCount}
 use Rattle.formats.specs.declared.ranges.Range.{Range}
@@ -57,22 +57,13 @@ module _ (s : List ℕ) (here : Place) (root : Point) where
         let q : natAbs z ≡ up c = omega (arith, whole, natAbs-is z, one-part z, ap up e, b .0) in
         then-value _ (then-value _ (number-read s here 2 line-is branchKey (upTo branchLimit) z next t)) ∙ ap (λ k. fromWire root k (drop (next .at) s)) q
 
-  module _ (c : ℕ) (line-is : here .line ≡ 3) where
-    pub wire-refused : (e : Refusal) → dueNumber InNet (here .line) wireKey (upTo wireFactorLimit) (drop (here .at) s) ≡ refused e → fromWire root c (drop (here .at) s) ≡ refused e
-    wire-refused e r = then-refused _ (then-refused _ (then-refused _ (number-refused s here 3 line-is wireKey (upTo wireFactorLimit) e r)))
-
-    pub wire-read : (z : ℤ) (next : Place) → NumberTaken InNet wireKey (upTo wireFactorLimit) s here z next → (d : WireFactor) → d .0 ≡ natAbs z → fromWire root c (drop (here .at) s) ≡ fromNeed root c d (drop (next .at) s)
-    wire-read z next t d e =
-        then-value _ (then-value _ (then-value _ (number-read s here 3 line-is wireKey (upTo wireFactorLimit) z next t)))
-        ∙ (λ i. fromNeed root c (record { 0 = sym e i }) (drop (next .at) s))
-
-  module _ (c : ℕ) (d : WireFactor) (line-is : here .line ≡ 4) where
-    pub need-refused : (e : Refusal) → dueNumber InNet (here .line) needKey (around needLimit) (drop (here .at) s) ≡ refused e → fromNeed root c d (drop (here .at) s) ≡ refused e
+  module _ (c : ℕ) (w : MetalPair) (line-is : here .line ≡ 4) where
+    pub need-refused : (e : Refusal) → dueNumber InNet (here .line) needKey (around needLimit) (drop (here .at) s) ≡ refused e → fromNeed root c w (drop (here .at) s) ≡ refused e
     need-refused e r = then-refused _ (number-refused s here 4 line-is needKey (around needLimit) e r)
 
-    pub need-read : (z : ℤ) (next : Place) → NumberTaken InNet needKey (around needLimit) s here z next → (t : ℤ) → t ≡ z → fromNeed root c d (drop (here .at) s) ≡ fromCount root c d t (drop (next .at) s)
+    pub need-read : (z : ℤ) (next : Place) → NumberTaken InNet needKey (around needLimit) s here z next → (t : ℤ) → t ≡ z → fromNeed root c w (drop (here .at) s) ≡ fromCount root c w t (drop (next .at) s)
     need-read z next t a e =
-        then-value _ (number-read s here 4 line-is needKey (around needLimit) z next t) ∙ ap (λ a. fromCount root c d a (drop (next .at) s)) (sym e)
+        then-value _ (number-read s here 4 line-is needKey (around needLimit) z next t) ∙ ap (λ a. fromCount root c w a (drop (next .at) s)) (sym e)
 
   module _ (h : Header) (line-is : here .line ≡ 5) where
     pub count-refused : (e : Refusal) → dueNumber InNet (here .line) sinksKey (upTo sinkLimit) (drop (here .at) s) ≡ refused e → fromCount root (up (h .branch .0)) (h .wire) (h .need .0) (drop (here .at) s) ≡ refused e
@@ -91,6 +82,13 @@ module _ (s : List ℕ) (here : Place) (root : Point) where
 pub root-read : (s : List ℕ) (ns : Numbers) (next : ℕ) → Taken rootKey positionRanges s 0 ns next → (p : Point) → p .x ≡ valueOf (ns .first) → p .y ≡ valueOf (ns .second) → readHead s ≡ fromBranch p (drop next s)
 root-read s ns next t p ex ey =
     then-value _ (then-value _ (taken-due InNet t 1)) ∙ (λ i. fromBranch (record { x = sym ex i; y = sym ey i }) (drop next s))
+
+-- ---- the line of the factors
+
+pub wire-read : (root : Point) (c : ℕ) (s : List ℕ) (at : ℕ) (ns : Numbers) (next : ℕ) → Taken wireKey factorRanges s at ns next → (w : MetalPair) → w .horizontal .0 ≡ natAbs (valueOf (ns .first)) → w .vertical .0 ≡ natAbs (valueOf (ns .second))
+    → fromWire root c (drop at s) ≡ fromNeed root c w (drop next s)
+wire-read root c s at ns next t w eh ev =
+    then-value _ (then-value _ (taken-due InNet t 3)) ∙ (λ i. fromNeed root c (record { horizontal = record { 0 = sym eh i }; vertical = record { 0 = sym ev i } }) (drop next s))
 
 -- ---- "length first"
 

@@ -7,23 +7,24 @@ use mathlib.Core.Bool.{Bool, true, false}
 use mathlib.Core.List.{List, [], _∷_, _++_, map, append-assoc, append-nil}
 use lib.ListN.{length, getD, length-map}
 use lib.Dec.{ltb}
-use lib.IntN.{pos}
+use lib.IntN.{pos, natAbs}
 use native.Mathlib.Omega.{arith}
 use borrow.Author.Tests.{ltb-false, le-ltb}
 use Rattle.quantities.specs.Inner.Linear.{whole}
+use Rattle.quantities.specs.declared.metal_pair.MetalPair.{MetalPair}
 use Rattle.quantities.specs.declared.point.Point.{Point}
 use Rattle.quantities.specs.Distance.{distance}
 use Rattle.quantities.specs.Ranges.{Within, PointWithin}
 use Rattle.tree.specs.Net.{Net, Sink, size, sinkAt, required}
-use Rattle.tree.specs.Limits.{positionLimit, branchLimit, wireFactorLimit, needLimit, sinkLimit, requiredLimit, InRange}
+use Rattle.tree.specs.Limits.{positionLimit, branchLimit, wireFactorLimit, needLimit, sinkLimit, requiredLimit, FactorInRange, InRange}
 use Rattle.formats.specs.Limits.{netLengthLimit, pinLimit}
 use Rattle.formats.specs.Line.{lineText}
 use Rattle.formats.specs.Refusals.{told}
 use Rattle.formats.specs.Outcome.{Outcome, value, refused, andThen}
 use Rattle.formats.specs.Ranges.{around, upTo}
-use Rattle.formats.specs.Reading.Lines.{Read, due, dueNatural, ended}
-use Rattle.formats.specs.NetText.{rootKey, branchKey, wireKey, needKey, sinksKey, sinksText, netLines, netText, pinDistance, InFormat, positionRanges}
-use Rattle.formats.specs.Reading.Nets.{Head, dueRoot, dueBranch, dueWire, dueNeed, dueCount, readHead, readSinks, readRest, netWith, readNetLines, readNet}
+use Rattle.formats.specs.Reading.Lines.{Read, due, ended}
+use Rattle.formats.specs.NetText.{rootKey, branchKey, wireKey, needKey, sinksKey, sinksText, netLines, netText, pinDistance, InFormat, positionRanges, factorRanges}
+use Rattle.formats.specs.Reading.Nets.{Head, metalsOf, dueRoot, dueBranch, dueWire, dueNeed, dueCount, readHead, readSinks, readRest, netWith, readNetLines, readNet}
 use Rattle.formats.specs.FirstFar.{FirstFar, FarPinAt}
 use Rattle.formats.specs.Inner.Readers.{fromCount, fromNeed, fromWire, fromBranch}
 use Rattle.formats.specs.declared.refusal.Text.the-variants.{InNet}
@@ -31,7 +32,7 @@ use Rattle.formats.specs.declared.refusal.Refusal.{Refusal}
 use Rattle.formats.specs.declared.refusal.Refusal.the-variants.{TooLong, NotDue, OutOfRange, BytesFollow, FarPin}
 use Rattle.formats.proofs.Laws.Lines.Elements.{All, all-at, all-map}
 use Rattle.formats.proofs.Laws.Lines.Outcomes.{then-then, then-value}
-use Rattle.formats.proofs.Laws.Lines.DueTexts.{In, never, LineRefusal, due-cases, number-cases, natural-cases, due-complete, number-complete, natural-complete}
+use Rattle.formats.proofs.Laws.Lines.DueTexts.{In, never, LineRefusal, due-cases, number-cases, natural-cases, due-complete, number-complete, natural-complete, natural-of}
 use Rattle.formats.proofs.Laws.Nets.SinkTexts.{SinkIn, Near, FarAt, sinks-cases, sinks-complete, sinks-far, far-at, at-far}
 
 -- ---- the sinks
@@ -80,12 +81,19 @@ listed-far N i f = at-far (N .root) (N .sinks) i (omega (arith, f .sink .1)) (λ
 
 -- ---- the head
 
+-- the line of the factors
+abbrev MetalsIn : MetalPair → Type 0
+MetalsIn w = FactorInRange (w .horizontal) × FactorInRange (w .vertical)
+
+abbrev wireText : MetalPair → List ℕ
+wireText w = lineText wireKey (pos (w .horizontal .0) ∷ (pos (w .vertical .0) ∷ []))
+
 -- the first five lines
 abbrev headText : Head → List ℕ → List ℕ
 headText h r =
     lineText rootKey (h .root .x ∷ (h .root .y ∷ []))
     ++ (lineText branchKey (pos (h .branch) ∷ [])
-    ++ (lineText wireKey (pos (h .wire .0) ∷ [])
+    ++ (wireText (h .wire)
     ++ (lineText needKey (h .need ∷ [])
     ++ (lineText sinksKey (pos (h .count) ∷ [])
     ++ r))))
@@ -93,7 +101,7 @@ headText h r =
 record HeadIn (h : Head) : Type 0 where
   root : PointWithin positionLimit (h .root)
   branch : (1 ≤ h .branch) × (h .branch ≤ branchLimit)
-  wire : (1 ≤ h .wire .0) × (h .wire .0 ≤ wireFactorLimit)
+  wire : MetalsIn (h .wire)
   need : Within needLimit (h .need)
   count : (1 ≤ h .count) × (h .count ≤ sinkLimit)
 
@@ -103,6 +111,19 @@ up-to k m w = (omega (arith, whole, w .0), omega (arith, whole, w .1))
 in-up-to : (k m : ℕ) → (1 ≤ k) × (k ≤ m) → In (upTo m) (pos k)
 in-up-to k m w = (omega (arith, whole), omega (arith, whole))
 
+wire-cases : {A C : Type 0} (s : List ℕ) (next : Read MetalPair → Outcome A) (o : Outcome A) → andThen (dueWire s) next ≡ o → ((e : Refusal) → LineRefusal InNet 3 e → o ≡ refused e → C)
+    → ((w : MetalPair) → MetalsIn w → (r : List ℕ) → s ≡ wireText w ++ r → next (record { got = w; rest = r }) ≡ o → C) → C
+wire-cases s next o e bad f =
+    due-cases InNet 3 wireKey factorRanges s _ o (sym (then-then (due InNet 3 wireKey factorRanges s) _ next) ∙ e) bad λ x hx y hy r t u.
+    let m : pos (natAbs x) ≡ x = natural-of x (omega (arith, whole, hx .0)) in
+    let n : pos (natAbs y) ≡ y = natural-of y (omega (arith, whole, hy .0)) in
+    f (metalsOf (x ∷ (y ∷ []))) (up-to (natAbs x) wireFactorLimit (rw m hx), up-to (natAbs y) wireFactorLimit (rw n hy)) r (rw (m, n) t) u
+
+wire-complete : (w : MetalPair) (r : List ℕ) → MetalsIn w → dueWire (wireText w ++ r) ≡ value (record { got = w; rest = r })
+wire-complete w r h =
+    then-value _
+    (due-complete InNet 3 wireKey factorRanges (pos (w .horizontal .0) ∷ (pos (w .vertical .0) ∷ [])) r (omega arith) (in-up-to (w .horizontal .0) wireFactorLimit (h .0), (in-up-to (w .vertical .0) wireFactorLimit (h .1), tt)))
+
 head-cases : {A C : Type 0} (s : List ℕ) (next : Read Head → Outcome A) (o : Outcome A) → andThen (readHead s) next ≡ o → ((l : ℕ) (e : Refusal) → 1 ≤ l → l ≤ 5 → LineRefusal InNet l e → o ≡ refused e → C)
     → ((h : Head) (r : List ℕ) → HeadIn h → s ≡ headText h r → next (record { got = h; rest = r }) ≡ o → C) → C
 head-cases s next o e bad f =
@@ -111,19 +132,18 @@ head-cases s next o e bad f =
     due-cases InNet 1 rootKey positionRanges s _ o (sym (then-then line _ (λ root. andThen (fromBranch (root .got) (root .rest)) next)) ∙ e₁) (λ d b u. bad 1 d (omega arith) (omega arith) b u) λ x hx y hy s₁ t₁ u₁.
     let root : Point = record { x = x; y = y } in
     natural-cases InNet 2 branchKey (upTo branchLimit) s₁ (omega (arith, whole)) _ o (sym (then-then (dueBranch s₁) (λ c. fromWire root (c .got) (c .rest)) next) ∙ u₁) (λ d b u. bad 2 d (omega arith) (omega arith) b u) λ c hc s₂ t₂ u₂.
-    let e₃ = sym (then-then (dueWire s₂) (λ d. fromNeed root c (d .got) (d .rest)) next) ∙ u₂ in
-    natural-cases InNet 3 wireKey (upTo wireFactorLimit) s₂ (omega (arith, whole)) _ o (sym (then-then (dueNatural InNet 3 wireKey (upTo wireFactorLimit) s₂) _ (λ d. andThen (fromNeed root c (d .got) (d .rest)) next)) ∙ e₃) (λ d b u. bad 3 d (omega arith) (omega arith) b u) λ d hd s₃ t₃ u₃.
-    number-cases InNet 4 needKey (around needLimit) s₃ _ o (sym (then-then (dueNeed s₃) (λ t. fromCount root c (record { 0 = d }) (t .got) (t .rest)) next) ∙ u₃) (λ d b u. bad 4 d (omega arith) (omega arith) b u) λ t ht s₄ t₄ u₄.
+    wire-cases s₂ _ o (sym (then-then (dueWire s₂) (λ w. fromNeed root c (w .got) (w .rest)) next) ∙ u₂) (λ d b u. bad 3 d (omega arith) (omega arith) b u) λ w hw s₃ t₃ u₃.
+    number-cases InNet 4 needKey (around needLimit) s₃ _ o (sym (then-then (dueNeed s₃) (λ t. fromCount root c w (t .got) (t .rest)) next) ∙ u₃) (λ d b u. bad 4 d (omega arith) (omega arith) b u) λ t ht s₄ t₄ u₄.
     natural-cases InNet 5 sinksKey (upTo sinkLimit) s₄ (omega (arith, whole)) _ o (sym (then-then (dueCount s₄) _ next) ∙ u₄) (λ d b u. bad 5 d (omega arith) (omega arith) b u) λ n hn s₅ t₅ u₅.
-    let h : Head = record { root = root; branch = c; wire = record { 0 = d }; need = t; count = n } in
+    let h : Head = record { root = root; branch = c; wire = w; need = t; count = n } in
     let spelled : s ≡ headText h s₅ = cc in
-    f h s₅ (record { root = (hx, hy); branch = up-to c branchLimit hc; wire = up-to d wireFactorLimit hd; need = ht; count = up-to n sinkLimit hn }) spelled u₅
+    f h s₅ (record { root = (hx, hy); branch = up-to c branchLimit hc; wire = hw; need = ht; count = up-to n sinkLimit hn }) spelled u₅
 
 head-complete : (h : Head) (r : List ℕ) → HeadIn h → readHead (headText h r) ≡ value (record { got = h; rest = r })
 head-complete h r w =
     then-value (λ root. fromBranch (root .got) (root .rest)) (then-value _ (due-complete InNet 1 rootKey positionRanges (h .root .x ∷ (h .root .y ∷ [])) _ (omega arith) (w .root .0, (w .root .1, tt))))
     ∙ then-value (λ c. fromWire (h .root) (c .got) (c .rest)) (natural-complete InNet 2 branchKey (upTo branchLimit) (h .branch) _ (in-up-to (h .branch) branchLimit (w .branch)))
-    ∙ then-value (λ d. fromNeed (h .root) (h .branch) (d .got) (d .rest)) (then-value _ (natural-complete InNet 3 wireKey (upTo wireFactorLimit) (h .wire .0) _ (in-up-to (h .wire .0) wireFactorLimit (w .wire))))
+    ∙ then-value (λ m. fromNeed (h .root) (h .branch) (m .got) (m .rest)) (wire-complete (h .wire) _ (w .wire))
     ∙ then-value (λ t. fromCount (h .root) (h .branch) (h .wire) (t .got) (t .rest)) (number-complete InNet 4 needKey (around needLimit) (h .need) _ (w .need))
     ∙ then-value _ (natural-complete InNet 5 sinksKey (upTo sinkLimit) (h .count) _ (in-up-to (h .count) sinkLimit (w .count)))
 

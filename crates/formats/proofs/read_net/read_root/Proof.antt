@@ -1,6 +1,6 @@
 -- Line 1 of a net, by what the scanner and the ranges tell; then those after it. No loop.
 use Prim.Native.Nat.{ℕ}
-use mathlib.Core.Path.{_≡_, sym, _∙_}
+use mathlib.Core.Path.{_≡_, sym, subst, _∙_}
 use mathlib.Core.List.{List}
 use denote.Ref.{now}
 use native.Mathlib.Omega.{arith}
@@ -9,9 +9,9 @@ use borrow.Author.Tests.{not-true, not-false}
 use Rattle.quantities.specs.Inner.Linear.{fit}
 use Rattle.tree.specs.Limits.{positionLimit}
 use Rattle.formats.specs.Reading.Rows.{lineIn}
-use Rattle.formats.specs.NetText.{rootKey, positionRanges}
+use Rattle.formats.specs.NetText.{rootKey, both, positionRanges}
 use Rattle.formats.specs.Inner.Scanning.{lineAt}
-use Rattle.formats.specs.Inner.Ranging.{listed}
+use Rattle.formats.specs.Inner.Ranging.{Narrow, listed, Ranged}
 use Rattle.formats.specs.declared.refusal.Text.the-variants.{InNet}
 use Rattle.formats.specs.declared.scan.Numbers.{Numbers}
 use Rattle.formats.specs.declared.scan.Line.the-variants.{Spelt}
@@ -56,17 +56,24 @@ returns c =
 there : (t : tie.After-known-told) → (Spelt (numbers t) (next t .at) ≡ lineAt 0 (lineIn rootKey 2 (text t))) × (next t .line ≡ 2)
 there t = right-line rootKey 2 (text t) 0 1 (numbers t) (next t) (sym (t .before .numbers .given .1) ∙ t .before .before .before .read-line .ensures)
 
-is-position-requires : tie.Need-is-position-requires
-is-position-requires c κs = search needs
+around-requires : tie.Need-around-requires
+around-requires c κs = search needs
+
+both-inside-requires : tie.Need-both-inside-requires
+both-inside-requires c κs = subst Narrow (sym (c .around .ensures)) (around-narrow positionLimit (omega arith))
+
+-- its numbers were tested
+tested : (c : tie.After-both-inside) → Ranged (c .both-inside .result) positionRanges (listed (numbers (c .before .before)))
+tested c = subst (λ g. Ranged (c .both-inside .result) (both g) (listed (numbers (c .before .before)))) (c .before .around .ensures) (c .both-inside .ensures)
 
 returns-2 : tie.Need-returns-2
 returns-2 c =
-    let t = c .before .before in
-    then-refused _ (then-refused _ (due-out InNet 1 rootKey positionRanges (text t) 0 (omega arith) (numbers t) (next t .at) (there t .0) (failed (c .before .is-position .result) positionRanges (listed (numbers t)) (c .before .is-position .ensures) (not-true _ (c .if1 .taken)))))
+    let t = c .before .before .before in
+    then-refused _ (then-refused _ (due-out InNet 1 rootKey positionRanges (text t) 0 (omega arith) (numbers t) (next t .at) (there t .0) (failed (c .before .both-inside .result) positionRanges (listed (numbers t)) (tested (c .before)) (not-true _ (c .if1 .taken)))))
 
 -- its numbers are a position
 abbrev line : tie.After-y → tie.After-known-told
-line c = c .before .before .before .before
+line c = c .before .before .before .before .before
 
 taken : (c : tie.After-y) → Taken rootKey positionRanges (text (line c)) 0 (numbers (line c)) (next (line c) .at)
 taken c =
@@ -75,7 +82,7 @@ taken c =
       few = omega arith;
       spelt = there (line c) .0;
       narrow = (around-narrow positionLimit (omega arith), (around-narrow positionLimit (omega arith), tt));
-      passed = passed (e .before .is-position .result) positionRanges (listed (numbers (line c))) (e .before .is-position .ensures) (not-false _ (e .if1 .left));
+      passed = passed (e .before .both-inside .result) positionRanges (listed (numbers (line c))) (tested (e .before)) (not-false _ (e .if1 .left));
     }
 
 value-requires : tie.Need-value-requires
@@ -109,7 +116,8 @@ read-root-spec =
     enum-known-numbers
     enum-told
     returns
-    is-position-requires
+    around-requires
+    both-inside-requires
     returns-2
     value-requires
     value-requires-2

@@ -3,12 +3,12 @@ use Prim.Native.Nat.{ℕ, _*_, _≤_}
 use native.Mathlib.Nat.{mul-le-mul}
 use native.Mathlib.Omega.{arith}
 use lib.IntN.{ℤ, pos, _-ℤ_}
+use Rattle.quantities.specs.declared.metal_pair.MetalPair.{MetalPair}
 use Rattle.quantities.specs.declared.point.Point.{Point}
-use Rattle.quantities.specs.declared.wire_factor.WireFactor.{WireFactor}
 use Rattle.quantities.specs.Delay.{delay}
 use Rattle.quantities.specs.Distance.{distance}
 use Rattle.quantities.specs.Inner.Linear.{whole, -is, neg-up, neg-dn}
-use Rattle.quantities.specs.Ranges.{Within, PointWithin, FactorWithin}
+use Rattle.quantities.specs.Ranges.{Within, PointWithin, FactorsWithin}
 use Rattle.quantities.specs.Inner.Reach.{coordinateReach, factorReach, timeReach}
 use Rattle.quantities.proofs.Laws.Delay.{delay-within}
 use Rattle.quantities.proofs.Laws.Distance.{distance-within}
@@ -22,19 +22,19 @@ within-more k m z l w = omega (arith, whole, neg-up (pos k), neg-dn (pos k), neg
 pub point-reach : (p : Point) → PointWithin positionLimit p → PointWithin coordinateReach p
 point-reach p w = (within-more positionLimit coordinateReach (p .x) (omega arith) (w .0), within-more positionLimit coordinateReach (p .y) (omega arith) (w .1))
 
-pub factor-reach : (w : WireFactor) → FactorWithin wireFactorLimit w → FactorWithin factorReach w
-factor-reach w l = omega arith
+pub factors-reach : (w : MetalPair) → FactorsWithin wireFactorLimit w → FactorsWithin factorReach w
+factors-reach w l = (omega (arith, l .0), omega (arith, l .1))
 
 -- a wire between two points in range
 pub distance-limit : (p q : Point) → PointWithin positionLimit p → PointWithin positionLimit q → distance p q ≤ lengthLimit
 distance-limit p q = distance-within positionLimit p q
 
-pub delay-limit : (w : WireFactor) (p q : Point) → FactorWithin wireFactorLimit w → PointWithin positionLimit p → PointWithin positionLimit q → delay w p q ≤ delayLimit
+pub delay-limit : (w : MetalPair) (p q : Point) → FactorsWithin wireFactorLimit w → PointWithin positionLimit p → PointWithin positionLimit q → delay w p q ≤ delayLimit
 delay-limit w p q = delay-within wireFactorLimit positionLimit w p q
 
 module _ (N : Net) (R : InRange N) where
-  pub wire-within : FactorWithin wireFactorLimit (N .wire)
-  wire-within = R .wire .1
+  pub wire-within : FactorsWithin wireFactorLimit (N .wire)
+  wire-within = (R .wire .0 .1, R .wire .1 .1)
 
   -- the straight wire from the root to a sink
   far-limit : (s : ℕ) → 1 ≤ s → s ≤ size N → delay (N .wire) (N .root) (sinkAt N s) ≤ delayLimit

@@ -1,4 +1,4 @@
--- The marked nets of document 01, by computation and by Theorem 1.
+-- The marked nets of documents 01 and 02, by computation and by Theorem 1.
 use Prim.Native.Nat.{ℕ}
 use mathlib.Core.Path.{_≡_, refl, sym, ap, ap₂, subst, _∙_}
 use mathlib.Core.List.{[], _∷_}
@@ -19,7 +19,7 @@ use Rattle.tree.specs.Kraft.{kraftMaximum, searchDown, IsKraftMaximum}
 use Rattle.tree.specs.Planning.{tieRule}
 use Rattle.tree.specs.Settling.{plan, planBy}
 use Rattle.tree.specs.Theorem1.{Theorem1For}
-use Rattle.tree.specs.Marked.{netA, oneSink, TwoSinks, Marked}
+use Rattle.tree.specs.Marked.{netA, oneSink, TwoSinks, twoMetals, Marked}
 use Rattle.tree.proofs.Laws.Trees.StepsToRoot.{legal-reach}
 use Rattle.tree.proofs.Laws.Kraft.Maximum.{maximum-is, maximum-single}
 use Rattle.tree.proofs.Laws.Lists.Tables.{table-length}
@@ -32,6 +32,13 @@ maximum-A = refl
 
 best-A : IsKraftMaximum 20 (ownSlacks netA) (pos 0)
 best-A = subst (IsKraftMaximum 20 (ownSlacks netA)) maximum-A (maximum-is 20 _ _ (omega arith))
+
+maximum-metals : kraftMaximum 20 (ownSlacks (twoMetals 2 6)) ≡ pos 30
+unfolding kraftMaximum searchDown floorDiv minℤ delay span
+maximum-metals = refl
+
+best-metals : IsKraftMaximum 20 (ownSlacks (twoMetals 2 6)) (pos 30)
+best-metals = subst (IsKraftMaximum 20 (ownSlacks (twoMetals 2 6))) maximum-metals (maximum-is 20 _ _ (omega arith))
 
 slack-A : worstSlack netA (planBy tieRule netA) ≡ pos 0
 unfolding worstSlack planBy tieRule minℤ maxℤ median medianPoint delay distance span
@@ -95,6 +102,16 @@ marked = record {
   A-gathered-all = refl;
   three-edges = refl;
   three-tried = refl;
+  metals-own = refl;
+  metals-tree = refl;
+  metals-slack = refl;
+  metals-wire = refl;
+  metals-best = best-metals;
+  horizontal-alone = refl;
+  vertical-alone = refl;
+  plain-tried = refl;
+  plain-tree = refl;
+  plain-wire = refl;
   median-of-three = refl;
   ring-counts = refl;
   ring-unreached = refl;

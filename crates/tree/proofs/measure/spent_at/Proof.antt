@@ -13,7 +13,7 @@ use Rattle.quantities.specs.Ranges.{PointWithin}
 use Rattle.tree.specs.Measures.{oneIf}
 use Rattle.tree.specs.Limits.{positionLimit}
 use Rattle.tree.specs.Inner.Arrays.{pointAt}
-use Rattle.tree.proofs.Laws.Measures.InReach.{point-reach, factor-reach, delay-limit}
+use Rattle.tree.proofs.Laws.Measures.InReach.{point-reach, factors-reach, delay-limit}
 use Rattle.tree.proofs.Laws.Measures.MeasuredArrays.{parent-inside, near, long}
 use Rattle.tree.proofs.Laws.Measures.Spending.{add-add}
 use borrow.Author.Needs.{needs}
@@ -47,7 +47,7 @@ lower c =
     subst (PointWithin positionLimit) (sym (c .point2 .ensures)) (near _ _ _ _ (t .1) _ (t .3 .1))
 
 delay-requires : tie.Need-delay-requires
-delay-requires c κs = (factor-reach _ (c .before .before .before .before .pre .0 .0), point-reach _ (upper c), point-reach _ (lower c))
+delay-requires c κs = (factors-reach _ (c .before .before .before .before .pre .0 .0), point-reach _ (upper c), point-reach _ (lower c))
 
 branch-cost-requires : tie.Need-branch-cost-requires
 branch-cost-requires c κs = search needs

@@ -52,7 +52,7 @@ fn urgent_first(net: &Net) -> Vec<Sink> {
     let mut order: Vec<Sink> = (1..=net.sinks())
         .map(|number| {
             let at = net.points[number];
-            let own = net.arrivals[number] - net.wire * distance(root, at);
+            let own = net.arrivals[number] - net.wire.delay(root, at);
             Sink { number, at, own }
         })
         .collect();

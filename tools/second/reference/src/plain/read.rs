@@ -7,11 +7,24 @@ pub type Point = (i64, i64);
 
 pub struct Net {
     pub branch: i64,
-    pub wire: i64,
+    pub wire: Factors,
     pub need: i64,
     /// Root first, then the sinks; so are the arrivals, the root's unused.
     pub points: Vec<Point>,
     pub arrivals: Vec<i64>,
+}
+
+/// Per micrometre across and upward.
+#[derive(Clone, Copy)]
+pub struct Factors {
+    pub horizontal: i64,
+    pub vertical: i64,
+}
+
+impl Factors {
+    pub fn delay(self, a: Point, b: Point) -> i64 {
+        self.horizontal * (a.0 - b.0).abs() + self.vertical * (a.1 - b.1).abs()
+    }
 }
 
 impl Net {
@@ -130,7 +143,7 @@ pub fn net(bytes: &[u8]) -> Read<Net> {
     let root = (c.coordinate(x)?, c.coordinate(y)?);
     c.line += 1;
     let branch = c.single(b"branch=", 1, 1_000_000)?;
-    let wire = c.single(b"wire=", 1, 10_000)?;
+    let wire = factors(&mut c)?;
     let need = c.single(b"need=", -2_000_000_000_000, 2_000_000_000_000)?;
     let n = c.single(b"sinks=", 1, 512)? as usize;
     let mut points = Vec::with_capacity(2 * n);
@@ -150,6 +163,18 @@ pub fn net(bytes: &[u8]) -> Read<Net> {
         need,
         points,
         arrivals,
+    })
+}
+
+fn factors(c: &mut Cursor) -> Read<Factors> {
+    c.key(b"wire=")?;
+    let (h, v) = (c.number(b',')?, c.number(b'\n')?);
+    let horizontal = c.within(h, 1, 10_000)?;
+    let vertical = c.within(v, 1, 10_000)?;
+    c.line += 1;
+    Ok(Factors {
+        horizontal,
+        vertical,
     })
 }
 

@@ -74,7 +74,8 @@ pub fn worst_slack(net: &Net, listing: &Listing, order: &[usize]) -> i64 {
     for &v in order {
         let p = listing.parent[v];
         let branch = if p == 0 { 0 } else { net.branch };
-        delay[v] = delay[p] + net.wire * distance(listing.points[v], listing.points[p]) + branch;
+        let edge = net.wire.delay(listing.points[v], listing.points[p]);
+        delay[v] = delay[p] + edge + branch;
         if v <= n {
             worst = worst.min(net.arrivals[v] - delay[v]);
         }
