@@ -7,6 +7,7 @@ mod ranges;
 pub mod read_listing;
 pub mod read_net;
 mod read_number;
+mod read_pair;
 pub mod reader;
 pub mod refusal;
 mod scan;

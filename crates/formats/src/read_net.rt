@@ -10,18 +10,19 @@ ghost use Rattle.tree.specs.Inner.Arrays.{pointAt};
 ghost use Rattle.tree.specs.declared.header.Header.{Header};
 ghost use Rattle.tree.specs.Limits.{positionLimit, sinkLimit};
 ghost use Rattle.formats.specs.Limits.{pinLimit};
-ghost use Rattle.formats.specs.NetText.{both, sinkRanges};
+ghost use Rattle.formats.specs.NetText.{sinkRanges};
 ghost use Rattle.formats.specs.Reading.Nets.{readHead};
-ghost use Rattle.formats.specs.Inner.Ranging.{Narrow, Ranged, listed};
+ghost use Rattle.formats.specs.Inner.Ranging.{Ranged, listed};
 ghost use Rattle.formats.specs.Inner.Readers.{AtSinks, HasPlace, HeadSays, NetHeadSays, fromBranch, fromWire, fromNeed, fromCount, afterHead, SinkSays, netOutcome};
 use crate::limits::NET_LENGTH_LIMIT;
 use crate::limits::PIN_LIMIT;
-use crate::ranges::Range;
 use crate::ranges::around;
 use crate::ranges::is_inside;
 use crate::ranges::up_to;
 use crate::read_number::NumberLine;
 use crate::read_number::read_number;
+use crate::read_pair::PairLine;
+use crate::read_pair::read_pair;
 use crate::reader::Place;
 use crate::reader::Taken;
 use crate::reader::bytes_follow;
@@ -84,29 +85,21 @@ pub fn read_head(text: &[u8]) -> HeadLines
 fn read_root(text: &[u8]) -> HeadLines
     ensures { λ r. ⌜ HeadSays (readHead (now (text .entry))) (now (text .entry)) r ⌝ }
 {
-    let Taken::AsDue { numbers, next } = read_line(text, 0, 1, b"root=", 2) else {
-        return HeadLines::HeadRefused {
-            refusal: Refusal::NotDue {
-                text: Text::InNet,
-                line: 1,
-            },
-        };
-    };
-    if !both_inside(numbers, around(POSITION_LIMIT)) {
-        return HeadLines::HeadRefused {
-            refusal: Refusal::OutOfRange {
-                text: Text::InNet,
-                line: 1,
-            },
-        };
+    let here = Place { at: 0, line: 1 };
+    match read_pair(text, here, b"root=", around(POSITION_LIMIT)) {
+        PairLine::PairRefused { refusal } => HeadLines::HeadRefused { refusal },
+        PairLine::PairRead {
+            first,
+            second,
+            next,
+        } => {
+            let root = Point {
+                x: first,
+                y: second,
+            };
+            read_branch(text, next, root)
+        }
     }
-    let x = numbers.first;
-    let y = numbers.second;
-    let root = Point {
-        x: x.value(),
-        y: y.value(),
-    };
-    read_branch(text, next, root)
 }
 
 // Line 2 and those after it.
@@ -125,29 +118,20 @@ fn read_wire(text: &[u8], here: Place, root: Point, branch: Time) -> HeadLines
     requires { ⌜ (here .at ≤ length (now text)) × (here .line ≡ 3) × PointWithin positionLimit root ⌝ }
     ensures { λ r. ⌜ HeadSays (fromWire root (up (branch .0)) (drop (here .at) (now (text .entry)))) (now (text .entry)) r ⌝ }
 {
-    let Taken::AsDue { numbers, next } = read_line(text, here.at, 3, b"wire=", 2) else {
-        return HeadLines::HeadRefused {
-            refusal: Refusal::NotDue {
-                text: Text::InNet,
-                line: 3,
-            },
-        };
-    };
-    if !both_inside(numbers, up_to(WIRE_FACTOR_LIMIT)) {
-        return HeadLines::HeadRefused {
-            refusal: Refusal::OutOfRange {
-                text: Text::InNet,
-                line: 3,
-            },
-        };
+    match read_pair(text, here, b"wire=", up_to(WIRE_FACTOR_LIMIT)) {
+        PairLine::PairRefused { refusal } => HeadLines::HeadRefused { refusal },
+        PairLine::PairRead {
+            first,
+            second,
+            next,
+        } => {
+            let wire = MetalPair {
+                horizontal: WireFactor::of(first as u64),
+                vertical: WireFactor::of(second as u64),
+            };
+            read_need(text, next, root, branch, wire)
+        }
     }
-    let horizontal = numbers.first;
-    let vertical = numbers.second;
-    let wire = MetalPair {
-        horizontal: WireFactor::of(horizontal.value() as u64),
-        vertical: WireFactor::of(vertical.value() as u64),
-    };
-    read_need(text, next, root, branch, wire)
 }
 
 // Line 4 and those after it.
@@ -178,17 +162,6 @@ fn read_count(text: &[u8], here: Place, root: Point, header: Header) -> HeadLine
             next,
         },
     }
-}
-
-// Whether the first two numbers of a line are in one range.
-fn both_inside(numbers: Numbers, range: Range) -> bool
-    requires { ⌜ Narrow range ⌝ }
-    ensures { λ r. ⌜ Ranged r (both range) (listed numbers) ⌝ }
-{
-    if !is_inside(numbers.first, range) {
-        return false;
-    }
-    is_inside(numbers.second, range)
 }
 
 // Whether a pin stands farther from the root than the pin limit.

@@ -1,5 +1,6 @@
 -- The ranges of document 01, 'The net text' and 'The tree listing', each once. Definitions alone.
 use Prim.Native.Nat.{ℕ, _≤_}
+use Rattle.quantities.specs.declared.metal_pair.MetalPair.{MetalPair}
 use Rattle.quantities.specs.declared.wire_factor.WireFactor.{WireFactor}
 use Rattle.quantities.specs.Ranges.{Within, PointWithin, FactorWithin}
 use Rattle.tree.specs.Net.{Net, size, sinkAt, required}
@@ -39,10 +40,13 @@ wireLimit = 1_000_000_000
 abbrev pub FactorInRange : WireFactor → Type 0
 FactorInRange f = (1 ≤ f .0) × FactorWithin wireFactorLimit f
 
+abbrev pub FactorsInRange : MetalPair → Type 0
+FactorsInRange w = FactorInRange (w .horizontal) × FactorInRange (w .vertical)
+
 pub record InRange (N : Net) : Type 0 where
   pub root : PointWithin positionLimit (N .root)
   pub branch : (1 ≤ N .branch) × (N .branch ≤ branchLimit)
-  pub wire : FactorInRange (N .wire .horizontal) × FactorInRange (N .wire .vertical)
+  pub wire : FactorsInRange (N .wire)
   pub need : Within needLimit (N .need)
   pub sinks : (1 ≤ size N) × (size N ≤ sinkLimit)
   pub points : (s : ℕ) → 1 ≤ s → s ≤ size N → PointWithin positionLimit (sinkAt N s)

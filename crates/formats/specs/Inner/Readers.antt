@@ -14,13 +14,17 @@ use Rattle.tree.specs.Net.{Net, Sink, sinkNumbers}
 use Rattle.tree.specs.Inner.Arrays.{pointAt, netOf}
 use Rattle.tree.specs.Limits.{positionLimit, sinkLimit}
 use Rattle.formats.specs.Outcome.{Outcome, value, refused, andThen}
-use Rattle.formats.specs.Reading.Lines.{inside, Read, dueNumber}
+use Rattle.formats.specs.NetText.{both}
+use Rattle.formats.specs.Reading.Lines.{inside, Read, due, dueNumber}
 use Rattle.formats.specs.Reading.Nets.{Head, dueBranch, dueWire, dueNeed, dueCount, sinkOf, dueSink, readRest, netWith, readNet}
 use Rattle.formats.specs.declared.ranges.Range.{Range}
 use Rattle.formats.specs.declared.refusal.Text.{Text}
+use Rattle.formats.specs.declared.refusal.Text.the-variants.{InNet}
 use Rattle.formats.specs.declared.reader.Place.{Place}
 use Rattle.formats.specs.declared.read_number.NumberLine.{NumberLine}
 use Rattle.formats.specs.declared.read_number.NumberLine.the-variants.{NumberRead, NumberRefused}
+use Rattle.formats.specs.declared.read_pair.PairLine.{PairLine}
+use Rattle.formats.specs.declared.read_pair.PairLine.the-variants.{PairRead, PairRefused}
 use Rattle.formats.specs.declared.read_net.HeadLines.{HeadLines}
 use Rattle.formats.specs.declared.read_net.HeadLines.the-variants.{HeadRead, HeadRefused}
 use Rattle.formats.specs.declared.read_net.SinkLine.{SinkLine}
@@ -44,6 +48,17 @@ pub record NumberTaken (t : Text) (key : List ℕ) (range : Range) (s : List ℕ
 abbrev pub NumberSays : Text → List ℕ → Range → List ℕ → Place → NumberLine → Type 0
 NumberSays t key range s here (NumberRead z next) = NumberTaken t key range s here z next
 NumberSays t key range s here (NumberRefused e) = dueNumber t (here .line) key range (drop (here .at) s) ≡ refused e
+
+-- ---- a line of two numbers in one range
+
+-- the line at `here` of a net has the numbers x and y, in their range
+pub record PairTaken (key : List ℕ) (range : Range) (s : List ℕ) (here : Place) (x y : ℤ) (next : Place) : Type 0 where
+  pub read-to : ReadTo (due InNet (here .line) key (both range) (drop (here .at) s)) (x ∷ (y ∷ [])) s (here .line + 1) next
+  pub in-range : (inside range x ≡ true) × (inside range y ≡ true)
+
+abbrev pub PairSays : List ℕ → Range → List ℕ → Place → PairLine → Type 0
+PairSays key range s here (PairRead x y next) = PairTaken key range s here x y next
+PairSays key range s here (PairRefused e) = due InNet (here .line) key (both range) (drop (here .at) s) ≡ refused e
 
 -- ---- the head of a net
 

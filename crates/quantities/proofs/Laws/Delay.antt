@@ -40,7 +40,7 @@ module _ (w : MetalPair) where
   unfolding delay
   delay-triangle p q r = omega (arith, along-triangle (w .horizontal) (p .x) (q .x) (r .x), along-triangle (w .vertical) (p .y) (q .y) (r .y))
 
-  -- a median of p, q and a third point lies on a shortest way from p to q
+  -- a median of p, q and a third point lies on a way of least delay from p to q
   pub delay-through-median : (p q r : Point) → delay w p (medianPoint p q r) + delay w (medianPoint p q r) q ≡ delay w p q
   unfolding delay medianPoint
   delay-through-median p q r = omega (arith, along-median (w .horizontal) (p .x) (q .x) (r .x), along-median (w .vertical) (p .y) (q .y) (r .y))

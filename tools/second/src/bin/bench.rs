@@ -264,8 +264,9 @@ fn timed(nets: &[Vec<u8>], out: &mut [u8], plan: fn(&[u8], &mut [u8])) -> Durati
     start.elapsed()
 }
 
-/// Different nets, every other with factors that differ, made in chunks outside the timed stretches. The median chunk
-/// tells the rate of a machine that does nothing else.
+/// Different nets, every other with factors that differ, made in chunks outside
+/// the timed stretches. The median chunk tells the rate of a machine that does
+/// nothing else.
 fn million() {
     const CHUNK: usize = 500;
     let mut r = Random::new(12);

@@ -12,16 +12,20 @@ use Rattle.tree.specs.Limits.{positionLimit}
 use Rattle.formats.specs.Reading.Rows.{lineIn}
 use Rattle.formats.specs.Outcome.{value, refused}
 use Rattle.formats.specs.Ranges.{around}
+use Rattle.formats.specs.NetText.{both}
 use Rattle.formats.specs.Reading.Lines.{inside, allInside, due, dueNumber}
 use Rattle.formats.specs.Inner.Scanning.{lineAt}
 use Rattle.formats.specs.Inner.Ranging.{Passed, Failed, listed}
-use Rattle.formats.specs.Inner.Readers.{NumberTaken, NumberSays}
+use Rattle.formats.specs.Inner.Readers.{NumberTaken, NumberSays, PairTaken, PairSays}
 use Rattle.formats.specs.declared.ranges.Range.{Range}
 use Rattle.formats.specs.declared.refusal.Text.{Text}
+use Rattle.formats.specs.declared.refusal.Text.the-variants.{InNet}
 use Rattle.formats.specs.declared.refusal.Refusal.{Refusal}
 use Rattle.formats.specs.declared.refusal.Refusal.the-variants.{NotDue, OutOfRange}
 use Rattle.formats.specs.declared.read_number.NumberLine.{NumberLine}
 use Rattle.formats.specs.declared.read_number.NumberLine.the-variants.{NumberRead, NumberRefused}
+use Rattle.formats.specs.declared.read_pair.PairLine.{PairLine}
+use Rattle.formats.specs.declared.read_pair.PairLine.the-variants.{PairRead, PairRefused}
 use Rattle.formats.specs.declared.scan.Numbers.{Numbers}
 use Rattle.formats.specs.declared.scan.Line.the-variants.{Spelt, Misspelled}
 use Rattle.formats.specs.declared.reader.Place.{Place}
@@ -85,3 +89,30 @@ module _ (t : Text) (key : List ℕ) (g w : Range) (same : g ≡ w) (s : List �
 
   pub said-taken : (z : ℤ) (next : Place) → r ≡ NumberRead z next → NumberTaken t key w s here z next
   said-taken z next q = subst (NumberSays t key w s here) q says-same
+
+-- ---- a line of two numbers in one range
+
+module _ (key : List ℕ) (range : Range) (s : List ℕ) (here : Place) where
+  pub pair-taken : (ns : Numbers) (next : Place) → Taken key (both range) s (here .at) ns (next .at) → next .line ≡ here .line + 1 → here .at ≤ length s → (x y : ℤ) → x ≡ valueOf (ns .first) → y ≡ valueOf (ns .second) → PairTaken key range s here x y next
+  pair-taken ns next k line-is b x y ex ey =
+      let e = taken-inside InNet k in
+      let f = and-second (inside range (valueOf (ns .first))) _ e in
+      record {
+        read-to = record {
+          reads = taken-due InNet k (here .line) ∙ (λ i. value (record { got = sym ex i ∷ (sym ey i ∷ []); rest = drop (next .at) s }));
+          within = taken-next InNet k b .1;
+          line-is = line-is;
+        };
+        in-range = (rw ex (and-first _ _ e), rw ey (and-first _ _ f));
+      }
+
+-- the same from the answer to it, where its range is known as w
+module _ (key : List ℕ) (g w : Range) (same : g ≡ w) (s : List ℕ) (here : Place) (r : PairLine) (says : PairSays key g s here r) where
+  pair-same : PairSays key w s here r
+  pair-same = subst (λ g. PairSays key g s here r) same says
+
+  pub pair-refused : (e : Refusal) → r ≡ PairRefused e → due InNet (here .line) key (both w) (drop (here .at) s) ≡ refused e
+  pair-refused e q = subst (PairSays key w s here) q pair-same
+
+  pub pair-read : (x y : ℤ) (next : Place) → r ≡ PairRead x y next → PairTaken key w s here x y next
+  pair-read x y next q = subst (PairSays key w s here) q pair-same

@@ -11,26 +11,23 @@ use Rattle.quantities.specs.declared.metal_pair.MetalPair.{MetalPair}
 use Rattle.quantities.specs.declared.point.Point.{Point}
 use Rattle.quantities.specs.Ranges.{PointWithin}
 use Rattle.tree.specs.declared.header.Header.{Header}
-use Rattle.tree.specs.Limits.{positionLimit, branchLimit, needLimit, sinkLimit}
+use Rattle.tree.specs.Limits.{positionLimit, branchLimit, wireFactorLimit, needLimit, sinkLimit}
 use Rattle.formats.specs.Limits.{netLengthLimit}
 use Rattle.formats.specs.Outcome.{Outcome, value, refused, andThen}
 use Rattle.formats.specs.Ranges.{around, upTo}
-use Rattle.formats.specs.Reading.Lines.{inside, Read, dueNumber}
+use Rattle.formats.specs.Reading.Lines.{Read, due, dueNumber}
 use Rattle.formats.specs.NetText.{rootKey, branchKey, wireKey, needKey, sinksKey, positionRanges, factorRanges}
 use Rattle.formats.specs.Reading.Nets.{Head, readHead, readRest, netWith, readNet}
-use Rattle.formats.specs.Inner.Readers.{NumberTaken, headOf, HeadSays, NetHeadSays, fromBranch, fromWire, fromNeed, fromCount}
+use Rattle.formats.specs.Inner.Readers.{NumberTaken, PairTaken, headOf, HeadSays, NetHeadSays, fromBranch, fromWire, fromNeed, fromCount}
 use Rattle.formats.specs.declared.ranges.Range.{Range}
 use Rattle.formats.specs.declared.refusal.Text.the-variants.{InNet}
 use Rattle.formats.specs.declared.refusal.Refusal.{Refusal}
 use Rattle.formats.specs.declared.refusal.Refusal.the-variants.{TooLong}
 use Rattle.formats.specs.declared.read_net.HeadLines.{HeadLines}
 use Rattle.formats.specs.declared.read_net.HeadLines.the-variants.{HeadRead, HeadRefused}
-use Rattle.formats.specs.declared.scan.Numbers.{Numbers}
 use Rattle.formats.specs.declared.reader.Place.{Place}
 use Rattle.formats.proofs.Laws.Lines.Outcomes.{then-value, then-refused}
-use Rattle.formats.proofs.Laws.Numbers.Ranges.{valueOf}
 use Rattle.formats.proofs.Laws.Lines.Due.{inside-bounds}
-use Rattle.formats.proofs.Laws.Lines.TakenLines.{Taken, taken-due}
 
 -- an answer to what an outcome is equal to
 pub says-by : {o p : Outcome (Read Head)} (s : List ℕ) (r : HeadLines) → o ≡ p → HeadSays p s r → HeadSays o s r
@@ -79,16 +76,23 @@ module _ (s : List ℕ) (here : Place) (root : Point) where
 
 -- ---- the root's line
 
-pub root-read : (s : List ℕ) (ns : Numbers) (next : ℕ) → Taken rootKey positionRanges s 0 ns next → (p : Point) → p .x ≡ valueOf (ns .first) → p .y ≡ valueOf (ns .second) → readHead s ≡ fromBranch p (drop next s)
-root-read s ns next t p ex ey =
-    then-value _ (then-value _ (taken-due InNet t 1)) ∙ (λ i. fromBranch (record { x = sym ex i; y = sym ey i }) (drop next s))
+pub root-refused : (s : List ℕ) (e : Refusal) → due InNet 1 rootKey positionRanges s ≡ refused e → readHead s ≡ refused e
+root-refused s e r = then-refused _ (then-refused _ r)
+
+pub root-read : (s : List ℕ) (x y : ℤ) (next : Place) → PairTaken rootKey (around positionLimit) s (record { at = 0; line = 1 }) x y next → (p : Point) → p .x ≡ x → p .y ≡ y → readHead s ≡ fromBranch p (drop (next .at) s)
+root-read s x y next t p ex ey =
+    then-value _ (then-value _ (t .read-to .reads)) ∙ (λ i. fromBranch (record { x = sym ex i; y = sym ey i }) (drop (next .at) s))
 
 -- ---- the line of the factors
 
-pub wire-read : (root : Point) (c : ℕ) (s : List ℕ) (at : ℕ) (ns : Numbers) (next : ℕ) → Taken wireKey factorRanges s at ns next → (w : MetalPair) → w .horizontal .0 ≡ natAbs (valueOf (ns .first)) → w .vertical .0 ≡ natAbs (valueOf (ns .second))
-    → fromWire root c (drop at s) ≡ fromNeed root c w (drop next s)
-wire-read root c s at ns next t w eh ev =
-    then-value _ (then-value _ (taken-due InNet t 3)) ∙ (λ i. fromNeed root c (record { horizontal = record { 0 = sym eh i }; vertical = record { 0 = sym ev i } }) (drop next s))
+module _ (root : Point) (c : ℕ) (s : List ℕ) (here : Place) (line-is : here .line ≡ 3) where
+  pub wire-refused : (e : Refusal) → due InNet (here .line) wireKey factorRanges (drop (here .at) s) ≡ refused e → fromWire root c (drop (here .at) s) ≡ refused e
+  wire-refused e r = then-refused _ (then-refused _ (ap (λ l. due InNet l wireKey factorRanges (drop (here .at) s)) (sym line-is) ∙ r))
+
+  pub wire-read : (x y : ℤ) (next : Place) → PairTaken wireKey (upTo wireFactorLimit) s here x y next → (w : MetalPair) → w .horizontal .0 ≡ natAbs x → w .vertical .0 ≡ natAbs y → fromWire root c (drop (here .at) s) ≡ fromNeed root c w (drop (next .at) s)
+  wire-read x y next t w eh ev =
+      then-value _ (then-value _ (ap (λ l. due InNet l wireKey factorRanges (drop (here .at) s)) (sym line-is) ∙ t .read-to .reads))
+      ∙ (λ i. fromNeed root c (record { horizontal = record { 0 = sym eh i }; vertical = record { 0 = sym ev i } }) (drop (next .at) s))
 
 -- ---- "length first"
 

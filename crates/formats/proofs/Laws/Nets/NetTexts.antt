@@ -16,7 +16,7 @@ use Rattle.quantities.specs.declared.point.Point.{Point}
 use Rattle.quantities.specs.Distance.{distance}
 use Rattle.quantities.specs.Ranges.{Within, PointWithin}
 use Rattle.tree.specs.Net.{Net, Sink, size, sinkAt, required}
-use Rattle.tree.specs.Limits.{positionLimit, branchLimit, wireFactorLimit, needLimit, sinkLimit, requiredLimit, FactorInRange, InRange}
+use Rattle.tree.specs.Limits.{positionLimit, branchLimit, wireFactorLimit, needLimit, sinkLimit, requiredLimit, FactorsInRange, InRange}
 use Rattle.formats.specs.Limits.{netLengthLimit, pinLimit}
 use Rattle.formats.specs.Line.{lineText}
 use Rattle.formats.specs.Refusals.{told}
@@ -82,9 +82,6 @@ listed-far N i f = at-far (N .root) (N .sinks) i (omega (arith, f .sink .1)) (λ
 -- ---- the head
 
 -- the line of the factors
-abbrev MetalsIn : MetalPair → Type 0
-MetalsIn w = FactorInRange (w .horizontal) × FactorInRange (w .vertical)
-
 abbrev wireText : MetalPair → List ℕ
 wireText w = lineText wireKey (pos (w .horizontal .0) ∷ (pos (w .vertical .0) ∷ []))
 
@@ -101,7 +98,7 @@ headText h r =
 record HeadIn (h : Head) : Type 0 where
   root : PointWithin positionLimit (h .root)
   branch : (1 ≤ h .branch) × (h .branch ≤ branchLimit)
-  wire : MetalsIn (h .wire)
+  wire : FactorsInRange (h .wire)
   need : Within needLimit (h .need)
   count : (1 ≤ h .count) × (h .count ≤ sinkLimit)
 
@@ -112,14 +109,14 @@ in-up-to : (k m : ℕ) → (1 ≤ k) × (k ≤ m) → In (upTo m) (pos k)
 in-up-to k m w = (omega (arith, whole), omega (arith, whole))
 
 wire-cases : {A C : Type 0} (s : List ℕ) (next : Read MetalPair → Outcome A) (o : Outcome A) → andThen (dueWire s) next ≡ o → ((e : Refusal) → LineRefusal InNet 3 e → o ≡ refused e → C)
-    → ((w : MetalPair) → MetalsIn w → (r : List ℕ) → s ≡ wireText w ++ r → next (record { got = w; rest = r }) ≡ o → C) → C
+    → ((w : MetalPair) → FactorsInRange w → (r : List ℕ) → s ≡ wireText w ++ r → next (record { got = w; rest = r }) ≡ o → C) → C
 wire-cases s next o e bad f =
     due-cases InNet 3 wireKey factorRanges s _ o (sym (then-then (due InNet 3 wireKey factorRanges s) _ next) ∙ e) bad λ x hx y hy r t u.
     let m : pos (natAbs x) ≡ x = natural-of x (omega (arith, whole, hx .0)) in
     let n : pos (natAbs y) ≡ y = natural-of y (omega (arith, whole, hy .0)) in
     f (metalsOf (x ∷ (y ∷ []))) (up-to (natAbs x) wireFactorLimit (rw m hx), up-to (natAbs y) wireFactorLimit (rw n hy)) r (rw (m, n) t) u
 
-wire-complete : (w : MetalPair) (r : List ℕ) → MetalsIn w → dueWire (wireText w ++ r) ≡ value (record { got = w; rest = r })
+wire-complete : (w : MetalPair) (r : List ℕ) → FactorsInRange w → dueWire (wireText w ++ r) ≡ value (record { got = w; rest = r })
 wire-complete w r h =
     then-value _
     (due-complete InNet 3 wireKey factorRanges (pos (w .horizontal .0) ∷ (pos (w .vertical .0) ∷ [])) r (omega arith) (in-up-to (w .horizontal .0) wireFactorLimit (h .0), (in-up-to (w .vertical .0) wireFactorLimit (h .1), tt)))

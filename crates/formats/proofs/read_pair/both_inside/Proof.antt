@@ -8,8 +8,8 @@ use Rattle.formats.specs.Inner.Ranging.{listed, Tested, Ranged}
 use Rattle.formats.specs.declared.ranges.Range.{Range}
 use Rattle.formats.specs.declared.scan.Numbers.{Numbers}
 use borrow.Author.Needs.{needs}
-use Rattle.formats.proofs.read_net.both_inside.Statement.{statement}
-use Rattle.formats.proofs.read_net.both_inside.Tie as tie
+use Rattle.formats.proofs.read_pair.both_inside.Statement.{statement}
+use Rattle.formats.proofs.read_pair.both_inside.Tie as tie
 
 -- the last test decides
 by-last : (ns : Numbers) (g : Range) (t : Bool) → Tested true g (ns .first) → Tested t g (ns .second) → Ranged t (both g) (listed ns)
