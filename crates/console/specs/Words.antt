@@ -35,7 +35,7 @@ words (NotReached line) = bytes "this vertex is not reached from the root"
 -- "W is not the worst slack", "L is not the wire"
 words OtherSlack = bytes "the stated slack is not the tree's worst slack"
 words OtherWire = bytes "the stated wire is not the tree's wire"
--- 02, request 2: "A sink more than 40,000 micrometres from the root is refused"
+-- 02, request 2: "A sink more than" the pin limit "from the root is refused"
 words (FarPin line) = bytes "the sink is too far from the root"
 
 -- "Text 1 is the net, 2 the listing, 0 neither.": then it is the output

@@ -50,7 +50,7 @@ pub fn put_measures(out: &mut [u8], slack: Time, wire: Length, best: Time) -> us
     requires { ⌜ answerRoom ≤ length (now out) ⌝ }
     ensures { λ r. ⌜ Puts (now (out .entry)) 0 (measuresText (record { slack = slack .0; wire = wire .0; best = best .0 })) r (now (out .exit)) ⌝ }
 {
-    let first = put_line1(out, 0, b"slack=", slack.femtoseconds());
-    let second = put_line1(out, first, b"wire=", wire.micrometres() as i64);
-    put_line1(out, second, b"best=", best.femtoseconds())
+    let first = put_line1(out, 0, b"slack=", slack.attoseconds());
+    let second = put_line1(out, first, b"wire=", wire.nanometres() as i64);
+    put_line1(out, second, b"best=", best.attoseconds())
 }

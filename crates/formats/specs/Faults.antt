@@ -39,7 +39,7 @@ pub data Bars (l : ℕ) (zs : List ℤ) : Also → Refusal → Type 0 where
   other-count : {n : ℕ} → at zs 0 ≢ pos n → Bars l zs (count-is n) OtherCount
   -- "P is a sink"
   sink-parent : {n : ℕ} → pos 1 ≤ℤ at zs 0 → at zs 0 ≤ℤ pos n → Bars l zs (no-sink n) (SinkParent l)
-  -- 02, request 2: "A sink more than 40,000 micrometres from the root is refused"
+  -- 02, request 2: "A sink more than" the pin limit "from the root is refused"
   far-pin : {root : Point} → pinLimit < distance root (pointOf zs) → Bars l zs (near root) (FarPin l)
 
 -- its key, the k that is due if there is one, a range for each number after that, and what else is asked of these

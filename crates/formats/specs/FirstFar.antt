@@ -8,7 +8,7 @@ use Rattle.tree.specs.Limits.{sinkLimit, InRange}
 use Rattle.formats.specs.Limits.{netLengthLimit, pinLimit}
 use Rattle.formats.specs.NetText.{netLines, pinDistance}
 
--- sink v is the first "more than 40,000 micrometres from the root"
+-- sink v is the first "more than" the pin limit "from the root"
 pub record FirstFar (N : Net) (v : ℕ) : Type 0 where
   pub sink : (1 ≤ v) × (v ≤ size N)
   pub near : (u : ℕ) → 1 ≤ u → u < v → pinDistance N u ≤ pinLimit

@@ -10,6 +10,7 @@ pub mod NetText
 pub mod ListingText
 pub mod FirstFar
 pub mod Faults
+pub mod TextLengths
 -- How they are read, of which nothing need be believed, and what that comes to.
 pub mod Reading
 pub mod TextAnswers

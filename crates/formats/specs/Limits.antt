@@ -1,14 +1,13 @@
--- The lengths of document 01's two texts, and the pin limit of 02's request 2, each once; the other limits stand in the tree's own. Definitions alone.
+-- The lengths of the two texts and the pin limit, as 02's request 5 has them, each once; the other limits stand in the tree's own. Definitions alone.
 use Prim.Native.Nat.{ℕ}
 
--- "A net text has at most 20,480 bytes"
+-- 02, request 5: "Both texts may have 32,768 bytes."
 abbrev pub netLengthLimit : ℕ
-netLengthLimit = 20_480
+netLengthLimit = 32_768
 
--- "a listing 24,576"
 abbrev pub listingLengthLimit : ℕ
-listingLengthLimit = 24_576
+listingLengthLimit = 32_768
 
--- 02, request 2: "A sink more than 40,000 micrometres from the root is refused in every call that reads a net."
+-- "The pin limit of request 2 is 40,000,000": a sink more than so many nanometres from the root is refused
 abbrev pub pinLimit : ℕ
-pinLimit = 40_000
+pinLimit = 40_000_000

@@ -59,7 +59,7 @@ listingText n G =
     ++ (linesText (leafText (G .tree .parents)) (sinkNumbers n)
     ++ linesText (nodeText n (G .tree)) (branchNumbers n))))
 
--- "Ranges: W ..; L 0 to 1,000,000,000; n 1 to 512; P 0 to 2n-1; X and Y as above." That a P is a sink is refusal 8
+-- "Ranges: W ..; L ..; n 1 to 512; P 0 to 2n-1; X and Y as above." That a P is a sink is refusal 8
 pub record ListingInRange (n : ℕ) (G : Listing) : Type 0 where
   pub slack : Within slackLimit (G .slack)
   pub wire : G .wire ≤ wireLimit

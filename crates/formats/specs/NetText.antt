@@ -56,7 +56,7 @@ netLines n N =
 abbrev pub netText : Net → List ℕ
 netText N = netLines (size N) N
 
--- how far sink v stands from the root, |dx| + |dy|, in micrometres
+-- how far sink v stands from the root, |dx| + |dy|, in nanometres
 abbrev pub pinDistance : Net → ℕ → ℕ
 pinDistance N v = distance (N .root) (sinkAt N v)
 

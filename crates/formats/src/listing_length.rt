@@ -86,8 +86,8 @@ fn head_length(slack: Time, wire: Length, n: usize) -> usize
     requires { ⌜ Within slackLimit (slack .0) × (wire .0 ≤ wireLimit) × (n ≤ sinkLimit) ⌝ }
     ensures { λ r. ⌜ r ≡ length (headText (slack .0) (wire .0) n) ⌝ }
 {
-    let first = line1_length(b"slack=", slack.femtoseconds());
-    let second = line1_length(b"wire=", wire.micrometres() as i64);
+    let first = line1_length(b"slack=", slack.attoseconds());
+    let second = line1_length(b"wire=", wire.nanometres() as i64);
     first + second + line1_length(b"sinks=", n as i64)
 }
 

@@ -20,8 +20,8 @@ fn put_head(out: &mut [u8], slack: Time, wire: Length, n: usize) -> usize
     requires { ⌜ length (headText (slack .0) (wire .0) n) ≤ length (now out) ⌝ }
     ensures { λ r. ⌜ Puts (now (out .entry)) 0 (headText (slack .0) (wire .0) n) r (now (out .exit)) ⌝ }
 {
-    let first = put_line1(out, 0, b"slack=", slack.femtoseconds());
-    let second = put_line1(out, first, b"wire=", wire.micrometres() as i64);
+    let first = put_line1(out, 0, b"slack=", slack.attoseconds());
+    let second = put_line1(out, first, b"wire=", wire.nanometres() as i64);
     put_line1(out, second, b"sinks=", n as i64)
 }
 

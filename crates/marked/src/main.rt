@@ -1,4 +1,4 @@
-// The marked nets and lines that are checked by running plan and judge: number, text and line of what each returns, and plan's bytes; of request 1's nets the listing.
+// The marked nets and lines that are checked by running plan and judge: number, text and line of what each returns, and plan's bytes; of the nets of 02's requests 1, 4 and 5 the listing.
 use formats::limits::LISTING_LENGTH_LIMIT;
 use formats::limits::NET_LENGTH_LIMIT;
 use formats::refusal::Refusal;
@@ -30,6 +30,14 @@ fn show_judgement(net: &[u8], listing: &[u8]) {
         JudgeAnswer::Judged { slack, wire, best } => show_figures(0, 0, 0, 0),
         JudgeAnswer::JudgeRefused { refusal } => show_refusal(refusal),
     }
+}
+
+// What judge returns for A and a listing of it.
+fn judge_a(listing: &[u8]) {
+    show_judgement(
+        b"root=0,0\nbranch=20\nwire=2,2\nneed=0\nsinks=3\nsink=10,0,100\nsink=4,6,60\nsink=10,10,70\n",
+        listing,
+    );
 }
 
 // What judge returns for the listing in the first bytes of `out`.
@@ -72,11 +80,10 @@ fn show_listing(net: &[u8]) {
     }
 }
 
-// "512 sinks pass"
-fn show_512_sinks() {
-    let fd = os::open_read(b"sinks512.txt");
+fn show_file(name: &[u8]) {
+    let fd = os::open_read(name);
     if fd < 0 {
-        os::fail(b"sinks512.txt");
+        os::fail(name);
         return;
     }
     let mut net = [0u8; NET_LENGTH_LIMIT + 1];
@@ -108,33 +115,81 @@ fn show_lines() {
     show(
         b"root=0,0\nbranch=20\nwire=2,2\nneed=0\nsinks=513\nsink=10,0,100\nsink=4,6,60\nsink=10,10,70\n",
     );
-    show_512_sinks();
+    // 512 sinks pass.
+    show_file(b"sinks512.txt");
 }
 
-// Positions at their limit and beyond, with the pin limit of 02's request 2.
+// Positions at their limit and beyond, with the pin limit of 02's request 2, in the nanometres of its request 5.
 fn show_positions() {
-    // X 100000 passes with a root near enough, else 13.
-    show(b"root=60000,0\nbranch=20\nwire=2,2\nneed=-2000000000000\nsinks=1\nsink=100000,0,100\n");
-    show(b"root=0,0\nbranch=20\nwire=2,2\nneed=-2000000000000\nsinks=1\nsink=100000,0,100\n");
-    // 100001: 3, in X and Y of the root and of a sink.
-    show(b"root=100001,0\nbranch=20\nwire=2,2\nneed=-2000000000000\nsinks=1\nsink=100000,0,100\n");
+    // X 100000000 passes with a root near enough, else 13.
     show(
-        b"root=0,-100001\nbranch=20\nwire=2,2\nneed=-2000000000000\nsinks=1\nsink=0,-100000,100\n",
+        b"root=60000000,0\nbranch=20\nwire=2,2\nneed=-2000000000000000\nsinks=1\nsink=100000000,0,100\n",
     );
-    show(b"root=0,0\nbranch=20\nwire=2,2\nneed=-2000000000000\nsinks=1\nsink=100001,0,100\n");
-    show(b"root=0,100000\nbranch=20\nwire=2,2\nneed=-2000000000000\nsinks=1\nsink=0,100001,100\n");
-    // 40,000 from the root passes, 40,001: 13; by X alone, then by X and Y.
-    show(b"root=0,0\nbranch=20\nwire=2,2\nneed=-2000000000000\nsinks=1\nsink=40000,0,100\n");
-    show(b"root=0,0\nbranch=20\nwire=2,2\nneed=-2000000000000\nsinks=1\nsink=40001,0,100\n");
+    show(b"root=0,0\nbranch=20\nwire=2,2\nneed=-2000000000000000\nsinks=1\nsink=100000000,0,100\n");
+    // 100000001: 3, in X and Y of the root and of a sink.
     show(
-        b"root=-10000,5000\nbranch=20\nwire=2,2\nneed=-2000000000000\nsinks=1\nsink=5000,-20000,100\n",
+        b"root=100000001,0\nbranch=20\nwire=2,2\nneed=-2000000000000000\nsinks=1\nsink=100000000,0,100\n",
     );
     show(
-        b"root=-10000,5000\nbranch=20\nwire=2,2\nneed=-2000000000000\nsinks=1\nsink=5000,-20001,100\n",
+        b"root=0,-100000001\nbranch=20\nwire=2,2\nneed=-2000000000000000\nsinks=1\nsink=0,-100000000,100\n",
+    );
+    show(b"root=0,0\nbranch=20\nwire=2,2\nneed=-2000000000000000\nsinks=1\nsink=100000001,0,100\n");
+    show(
+        b"root=0,100000000\nbranch=20\nwire=2,2\nneed=-2000000000000000\nsinks=1\nsink=0,100000001,100\n",
+    );
+    // 40,000,000 from the root passes, 40,000,001: 13; by X alone, then by X and Y.
+    show(b"root=0,0\nbranch=20\nwire=2,2\nneed=-2000000000000000\nsinks=1\nsink=40000000,0,100\n");
+    show(b"root=0,0\nbranch=20\nwire=2,2\nneed=-2000000000000000\nsinks=1\nsink=40000001,0,100\n");
+    show(
+        b"root=-10000000,5000000\nbranch=20\nwire=2,2\nneed=-2000000000000000\nsinks=1\nsink=5000000,-20000000,100\n",
+    );
+    show(
+        b"root=-10000000,5000000\nbranch=20\nwire=2,2\nneed=-2000000000000000\nsinks=1\nsink=5000000,-20000001,100\n",
     );
     // A far pin, then a line that is misspelt: the first line that is refused.
     show(
-        b"root=0,0\nbranch=20\nwire=2,2\nneed=-2000000000000\nsinks=3\nsink=10,0,100\nsink=0,-40001,60\nsink=x\n",
+        b"root=0,0\nbranch=20\nwire=2,2\nneed=-2000000000000000\nsinks=3\nsink=10,0,100\nsink=0,-40000001,60\nsink=x\n",
+    );
+}
+
+// The ends of the ranges of c, t, a, W and L, which 02's request 5 moves.
+fn show_ranges() {
+    // Both ends of c, t and a pass: the lowest t is reached, the highest is not (5).
+    show(
+        b"root=0,0\nbranch=1\nwire=2,2\nneed=-2000000000000000\nsinks=1\nsink=0,0,-1000000000000000\n",
+    );
+    show(
+        b"root=0,0\nbranch=1000000000\nwire=2,2\nneed=2000000000000000\nsinks=1\nsink=0,0,1000000000000000\n",
+    );
+    // One past them: 3.
+    show(b"root=0,0\nbranch=1000000001\nwire=2,2\nneed=0\nsinks=1\nsink=0,0,0\n");
+    show(b"root=0,0\nbranch=20\nwire=2,2\nneed=-2000000000000001\nsinks=1\nsink=0,0,0\n");
+    show(b"root=0,0\nbranch=20\nwire=2,2\nneed=0\nsinks=1\nsink=0,0,1000000000000001\n");
+    // A's listing with W and L at their ends: 11, 12; one past them: 3.
+    judge_a(
+        b"slack=-4000000000000000\nwire=32\nsinks=3\nleaf=1,5\nleaf=2,5\nleaf=3,4\nnode=4,0,4,0\nnode=5,4,4,0\n",
+    );
+    judge_a(
+        b"slack=-4000000000000001\nwire=32\nsinks=3\nleaf=1,5\nleaf=2,5\nleaf=3,4\nnode=4,0,4,0\nnode=5,4,4,0\n",
+    );
+    judge_a(
+        b"slack=0\nwire=1000000000000\nsinks=3\nleaf=1,5\nleaf=2,5\nleaf=3,4\nnode=4,0,4,0\nnode=5,4,4,0\n",
+    );
+    judge_a(
+        b"slack=0\nwire=1000000000001\nsinks=3\nleaf=1,5\nleaf=2,5\nleaf=3,4\nnode=4,0,4,0\nnode=5,4,4,0\n",
+    );
+}
+
+// 02's request 5: long texts, and "Nothing is lost".
+fn show_nanometres() {
+    // 512 sinks with the longest numbers of all ranges.
+    show_file(b"longest512.txt");
+    // A net, and 1,000 times that net.
+    show_listing(
+        b"root=-3,2\nbranch=20\nwire=2,6\nneed=-30\nsinks=4\nsink=7,2,40\nsink=1,8,64\nsink=7,8,110\nsink=5,-4,97\n",
+    );
+    show_listing(
+        b"root=-3000,2000\nbranch=20000\nwire=2,6\nneed=-30000\nsinks=4\nsink=7000,2000,40000\nsink=1000,8000,64000\nsink=7000,8000,110000\nsink=5000,-4000,97000\n",
     );
 }
 
@@ -148,8 +203,8 @@ fn show_factors() {
         b"root=0,0\nbranch=20\nwire=2,6,2\nneed=0\nsinks=3\nsink=10,0,100\nsink=4,6,110\nsink=10,10,150\n",
     );
     // 1 and 10000 pass, 0 and 10001: 3,1,3.
-    show(b"root=0,0\nbranch=20\nwire=1,10000\nneed=-2000000000000\nsinks=1\nsink=3,4,100\n");
-    show(b"root=0,0\nbranch=20\nwire=10000,1\nneed=-2000000000000\nsinks=1\nsink=3,4,100\n");
+    show(b"root=0,0\nbranch=20\nwire=1,10000\nneed=-2000000000000000\nsinks=1\nsink=3,4,100\n");
+    show(b"root=0,0\nbranch=20\nwire=10000,1\nneed=-2000000000000000\nsinks=1\nsink=3,4,100\n");
     show(b"root=0,0\nbranch=20\nwire=0,6\nneed=0\nsinks=1\nsink=3,4,100\n");
     show(b"root=0,0\nbranch=20\nwire=2,0\nneed=0\nsinks=1\nsink=3,4,100\n");
     show(b"root=0,0\nbranch=20\nwire=10001,6\nneed=0\nsinks=1\nsink=3,4,100\n");
@@ -164,7 +219,7 @@ fn show_factors() {
     show_listing(
         b"root=0,0\nbranch=20\nwire=6,6\nneed=0\nsinks=3\nsink=10,0,100\nsink=4,6,110\nsink=10,10,150\n",
     );
-    // Nearness stays plain: sink 3 joins sink 2, which is 4 micrometres off, and not sink 1, 6 off.
+    // Nearness stays plain: sink 3 joins sink 2, which is 4 nanometres off, and not sink 1, 6 off.
     show_listing(
         b"root=0,0\nbranch=20\nwire=2,6\nneed=-40\nsinks=3\nsink=10,4,44\nsink=4,0,8\nsink=4,4,32\n",
     );
@@ -181,4 +236,6 @@ fn main() {
         b"root=0,0\nbranch=20\nwire=2,2\nneed=-40\nsinks=3\nsink=10,0,20\nsink=0,10,20\nsink=1,10,22\n",
     );
     show_factors();
+    show_ranges();
+    show_nanometres();
 }

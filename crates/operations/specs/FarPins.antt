@@ -12,7 +12,7 @@ use Rattle.formats.specs.declared.refusal.Refusal.the-variants.{FarPin}
 use Rattle.operations.specs.Answers.{planOf, judgeOf}
 
 pub record FarPins : Type 0 where
-  -- "A sink more than 40,000 micrometres from the root is refused in every call that reads a net.": "13, text 1, the sink's line", whatever the output or the listing is
+  -- "A sink more than" the pin limit "from the root is refused in every call that reads a net.": "13, text 1, the sink's line", whatever the output or the listing is
   pub plan-refuses : (net : List ℕ) (l : ℕ) → FarPinAt net l → (room : ℕ) → planOf net room ≡ refused (FarPin l)
   pub judge-refuses : (net : List ℕ) (l : ℕ) → FarPinAt net l → (listing : List ℕ) → judgeOf net listing ≡ refused (FarPin l)
   -- and nothing else is

@@ -1,17 +1,18 @@
--- The marked nets and lines of document 01, by 02's request 4 "restated with h = v", and those of its requests 1, 2 and 4, as one statement: what is said of texts here, the rest in the tree's own.
+-- The marked nets and lines of document 01, by 02's request 4 "restated with h = v", and those of its requests 1, 2, 4 and 5, as one statement: what is said of texts here, the rest in the tree's own.
 use Prim.Native.Nat.{ℕ, _≤_}
 use mathlib.Core.Path.{_≡_}
 use mathlib.Core.List.{List, [], _∷_, _++_}
 use lib.ListN.{length}
-use lib.IntN.{pos, negℤ}
+use lib.IntN.{ℤ, pos, negℤ}
 use Prim.Native.String.{String}
 use Rattle.quantities.specs.declared.point.Point.{Point}
+use Rattle.tree.specs.Limits.{needLimit}
 use Rattle.tree.specs.Net.{Net}
 use Rattle.tree.specs.Marked as tree
 use Rattle.formats.specs.Bytes.{bytes}
 use Rattle.formats.specs.NetText.{InFormat}
 use Rattle.formats.specs.Outcome.{value, refused}
-use Rattle.formats.specs.declared.refusal.Text.the-variants.{InNet}
+use Rattle.formats.specs.declared.refusal.Text.the-variants.{InNet, InListing}
 use Rattle.formats.specs.declared.refusal.Refusal.{Refusal}
 use Rattle.formats.specs.declared.refusal.Refusal.the-variants.{NotDue, OutOfRange, Unreachable, WrongChildren, NotReached, OtherSlack, OtherWire, FarPin}
 use Rattle.operations.specs.Answers.{planOf, planListing, judgeOf}
@@ -26,6 +27,10 @@ textA1 = bytes "root=0,0\nbranch=20\nwire=2,2\nneed=1\nsinks=3\nsink=10,0,100\ns
 -- "prints exactly, a line each"
 abbrev pub listingA : List ℕ
 listingA = bytes "slack=0\nwire=32\nsinks=3\nleaf=1,5\nleaf=2,5\nleaf=3,4\nnode=4,0,4,0\nnode=5,4,4,0\n"
+
+-- A's listing, by how its slack and wire are spelt
+abbrev pub statedA : String → String → List ℕ
+statedA slack wire = bytes "slack=" ++ (bytes slack ++ (bytes "\nwire=" ++ (bytes wire ++ bytes "\nsinks=3\nleaf=1,5\nleaf=2,5\nleaf=3,4\nnode=4,0,4,0\nnode=5,4,4,0\n")))
 
 -- "Three sinks at the root 0,0 with a = 0, c = 20, d = 2, t = -40"
 abbrev pub textThree : List ℕ
@@ -49,10 +54,10 @@ listingNearerSink = bytes "slack=-40\nwire=21\nsinks=3\nleaf=1,4\nleaf=2,5\nleaf
 
 -- 02, request 2: a net of one sink, by how its root and the sink's position are spelt, and the net that it is where both are in range
 abbrev pub pinText : String → String → List ℕ
-pinText root pin = bytes "root=" ++ (bytes root ++ (bytes "\nbranch=20\nwire=2,2\nneed=-2000000000000\nsinks=1\nsink=" ++ (bytes pin ++ bytes ",100\n")))
+pinText root pin = bytes "root=" ++ (bytes root ++ (bytes "\nbranch=20\nwire=2,2\nneed=-2000000000000000\nsinks=1\nsink=" ++ (bytes pin ++ bytes ",100\n")))
 
 abbrev pub pinNet : Point → Point → Net
-pinNet root pin = record { root = root; branch = 20; wire = tree.metals 2 2; need = negℤ (pos 2_000_000_000_000); sinks = record { point = pin; required = pos 100 } ∷ [] }
+pinNet root pin = record { root = root; branch = 20; wire = tree.metals 2 2; need = negℤ (pos needLimit); sinks = record { point = pin; required = pos 100 } ∷ [] }
 
 -- 02, request 4: the pins of A with other arrivals, by how the two factors are spelt, and the listing of its plan with h = 2 and v = 6
 abbrev pub metalsText : String → List ℕ
@@ -60,6 +65,13 @@ metalsText factors = bytes "root=0,0\nbranch=20\nwire=" ++ (bytes factors ++ byt
 
 abbrev pub listingMetals : List ℕ
 listingMetals = bytes "slack=30\nwire=26\nsinks=3\nleaf=1,5\nleaf=2,4\nleaf=3,5\nnode=4,0,4,0\nnode=5,4,10,0\n"
+
+-- 02, request 5: a net of one sink at the root, by how its c, t and a are spelt, and the net that it is where they are in range
+abbrev pub rangeText : String → String → String → List ℕ
+rangeText branch need required = bytes "root=0,0\nbranch=" ++ (bytes branch ++ (bytes "\nwire=2,2\nneed=" ++ (bytes need ++ (bytes "\nsinks=1\nsink=0,0," ++ (bytes required ++ bytes "\n")))))
+
+abbrev pub rangeNet : ℕ → ℤ → ℤ → Net
+rangeNet branch need required = record { root = tree.point (pos 0) (pos 0); branch = branch; wire = tree.metals 2 2; need = need; sinks = tree.sink (pos 0) (pos 0) required ∷ [] }
 
 -- a net that is refused so by plan and by judge, whatever the output or the listing is
 pub record TurnedAway (net : List ℕ) (e : Refusal) : Type 0 where
@@ -83,8 +95,8 @@ pub record Marked : Type 0 where
   pub three-plan : (room : ℕ) → length listingThree ≤ room → planOf textThree room ≡ value (record { slack = negℤ (pos 40); wire = 0; bytes = listingThree })
   pub three-judge : judgeOf textThree listingThree ≡ value (record { slack = negℤ (pos 40); wire = 0; best = negℤ (pos 40) })
   -- "A's listing with `slack=1`: 11,2,1. With `wire=31`: 12,2,2."
-  pub A-slack : judgeOf textA (bytes "slack=1\nwire=32\nsinks=3\nleaf=1,5\nleaf=2,5\nleaf=3,4\nnode=4,0,4,0\nnode=5,4,4,0\n") ≡ refused OtherSlack
-  pub A-wire : judgeOf textA (bytes "slack=0\nwire=31\nsinks=3\nleaf=1,5\nleaf=2,5\nleaf=3,4\nnode=4,0,4,0\nnode=5,4,4,0\n") ≡ refused OtherWire
+  pub A-slack : judgeOf textA (statedA "1" "32") ≡ refused OtherSlack
+  pub A-wire : judgeOf textA (statedA "0" "31") ≡ refused OtherWire
   -- "n = 3, parents of 1 to 5 are 0, 4, 5, 5, 4: 10,2,5."
   pub ring : judgeOf textA (bytes "slack=0\nwire=32\nsinks=3\nleaf=1,0\nleaf=2,4\nleaf=3,5\nnode=4,5,4,0\nnode=5,4,4,0\n") ≡ refused (NotReached 5)
   -- "n = 3, parents 4, 4, 4, 0, 4: 9,2,7."
@@ -101,28 +113,39 @@ pub record Marked : Type 0 where
   pub sink-format : InFormat textNearerSink tree.nearerSink
   pub sink-listing : planListing tree.nearerSink ≡ listingNearerSink
   pub sink-judge : judgeOf textNearerSink listingNearerSink ≡ value (record { slack = negℤ (pos 40); wire = 21; best = negℤ (pos 40) })
-  -- "X 100000 passes, 100001: 3", of the root and the sinks, and Y the same; by 02 "only with a root near enough": else 13,1,6
-  pub across-near : InFormat (pinText "60000,0" "100000,0") (pinNet (tree.point (pos 60_000) (pos 0)) (tree.point (pos 100_000) (pos 0)))
-  pub corner-near : InFormat (pinText "-100000,100000" "-100000,100000") (pinNet (tree.point (negℤ (pos 100_000)) (pos 100_000)) (tree.point (negℤ (pos 100_000)) (pos 100_000)))
-  pub across : TurnedAway (pinText "0,0" "100000,0") (FarPin 6)
-  pub root-x-range : TurnedAway (pinText "100001,0" "100000,0") (OutOfRange InNet 1)
-  pub root-y-range : TurnedAway (pinText "0,-100001" "0,-100000") (OutOfRange InNet 1)
-  -- "right after 3 on that line": 100001 is out of range, however far off
-  pub sink-x-range : TurnedAway (pinText "0,0" "100001,0") (OutOfRange InNet 6)
-  pub sink-y-range : TurnedAway (pinText "0,100000" "0,100001") (OutOfRange InNet 6)
-  -- "more than 40,000 micrometres from the root"
-  pub at-limit : InFormat (pinText "0,0" "40000,0") (pinNet (tree.point (pos 0) (pos 0)) (tree.point (pos 40_000) (pos 0)))
-  pub past-limit : TurnedAway (pinText "0,0" "40001,0") (FarPin 6)
+  -- "X 100000 passes, 100001: 3", of the root and the sinks, and Y the same: by request 5 they "become 100000000 and 100000001", by request 2 the first passes
+  -- "only with a root near enough": else 13,1,6
+  pub across-near : InFormat (pinText "60000000,0" "100000000,0") (pinNet (tree.point (pos 60_000_000) (pos 0)) (tree.point (pos 100_000_000) (pos 0)))
+  pub corner-near : InFormat (pinText "-100000000,100000000" "-100000000,100000000") (pinNet (tree.point (negℤ (pos 100_000_000)) (pos 100_000_000)) (tree.point (negℤ (pos 100_000_000)) (pos 100_000_000)))
+  pub across : TurnedAway (pinText "0,0" "100000000,0") (FarPin 6)
+  pub root-x-range : TurnedAway (pinText "100000001,0" "100000000,0") (OutOfRange InNet 1)
+  pub root-y-range : TurnedAway (pinText "0,-100000001" "0,-100000000") (OutOfRange InNet 1)
+  -- "right after 3 on that line": 100000001 is out of range, however far off
+  pub sink-x-range : TurnedAway (pinText "0,0" "100000001,0") (OutOfRange InNet 6)
+  pub sink-y-range : TurnedAway (pinText "0,100000000" "0,100000001") (OutOfRange InNet 6)
+  -- "The pin limit of request 2 is 40,000,000"
+  pub at-limit : InFormat (pinText "0,0" "40000000,0") (pinNet (tree.point (pos 0) (pos 0)) (tree.point (pos 40_000_000) (pos 0)))
+  pub past-limit : TurnedAway (pinText "0,0" "40000001,0") (FarPin 6)
   -- the same where |dx| and |dy| both count
-  pub both-at-limit : InFormat (pinText "-10000,5000" "5000,-20000") (pinNet (tree.point (negℤ (pos 10_000)) (pos 5_000)) (tree.point (pos 5_000) (negℤ (pos 20_000))))
-  pub both-past-limit : TurnedAway (pinText "-10000,5000" "5000,-20001") (FarPin 6)
+  pub both-at-limit : InFormat (pinText "-10000000,5000000" "5000000,-20000000") (pinNet (tree.point (negℤ (pos 10_000_000)) (pos 5_000_000)) (tree.point (pos 5_000_000) (negℤ (pos 20_000_000))))
+  pub both-past-limit : TurnedAway (pinText "-10000000,5000000" "5000000,-20000001") (FarPin 6)
+  -- "with c 1 to 1,000,000,000, the ends of t, a and W 1,000 times as far out, and L to 1,000,000,000,000": each end passes, one past it is 3
+  pub low-ends : InFormat (rangeText "1" "-2000000000000000" "-1000000000000000") (rangeNet 1 (negℤ (pos 2_000_000_000_000_000)) (negℤ (pos 1_000_000_000_000_000)))
+  pub high-ends : InFormat (rangeText "1000000000" "2000000000000000" "1000000000000000") (rangeNet 1_000_000_000 (pos 2_000_000_000_000_000) (pos 1_000_000_000_000_000))
+  pub branch-past : TurnedAway (rangeText "1000000001" "0" "0") (OutOfRange InNet 2)
+  pub need-past : TurnedAway (rangeText "20" "-2000000000000001" "0") (OutOfRange InNet 4)
+  pub required-past : TurnedAway (rangeText "20" "0" "1000000000000001") (OutOfRange InNet 6)
+  pub slack-end : judgeOf textA (statedA "-4000000000000000" "32") ≡ refused OtherSlack
+  pub slack-past : judgeOf textA (statedA "-4000000000000001" "32") ≡ refused (OutOfRange InListing 1)
+  pub wire-end : judgeOf textA (statedA "0" "1000000000000") ≡ refused OtherWire
+  pub wire-past : judgeOf textA (statedA "0" "1000000000001") ≡ refused (OutOfRange InListing 2)
   -- 02, request 4: two factors, the whole listing, and that judge reads it back; then the listings of either factor alone
   pub metals-format : InFormat (metalsText "2,6") (tree.twoMetals 2 6)
   pub metals-plan : (room : ℕ) → length listingMetals ≤ room → planOf (metalsText "2,6") room ≡ value (record { slack = pos 30; wire = 26; bytes = listingMetals })
   pub metals-judge : judgeOf (metalsText "2,6") listingMetals ≡ value (record { slack = pos 30; wire = 26; best = pos 30 })
   pub horizontal-alone : planListing (tree.twoMetals 2 2) ≡ bytes "slack=50\nwire=26\nsinks=3\nleaf=1,4\nleaf=2,5\nleaf=3,5\nnode=4,0,4,0\nnode=5,4,4,6\n"
   pub vertical-alone : planListing (tree.twoMetals 6 6) ≡ bytes "slack=0\nwire=32\nsinks=3\nleaf=1,5\nleaf=2,5\nleaf=3,4\nnode=4,0,4,0\nnode=5,4,4,0\n"
-  -- "Wire length, nearness .. stay plain micrometres"
+  -- "Wire length, nearness .. stay plain"
   pub plain-listing : planListing tree.plainNearness ≡ bytes "slack=-40\nwire=18\nsinks=3\nleaf=1,4\nleaf=2,5\nleaf=3,5\nnode=4,0,4,0\nnode=5,4,4,0\n"
   -- "The net line becomes `wire=h,v`": one number or three are 2,1,3
   pub one-factor : TurnedAway (metalsText "2") (NotDue InNet 3)

@@ -34,7 +34,7 @@ pub record TwoFactors : Type 0 where
   -- "delay along an edge is h × |dx| + v × |dy|, in own slack as in path slack"
   pub own-slack : (N : Net) (s : ℕ) → ownSlack N s ≡ required N s -ℤ pos (weighed (N .wire) (N .root) (sinkAt N s))
   pub path-slack : (N : Net) (T : Tree) (s : ℕ) → slack N T s ≡ slackBy N T s (sumOver (path T s) (λ u. weighed (N .wire) (place N T (parent T u)) (place N T u)))
-  -- "Wire length, nearness and the 40,000 limit stay plain micrometres": they are the same under all factors
+  -- "Wire length, nearness and the 40,000 limit stay plain": they are the same under all factors
   pub wire : (N : Net) (w : MetalPair) (T : Tree) → wireLength (under w N) T ≡ wireLength N T
   pub nearness : (N : Net) (w : MetalPair) (P : List ℕ) (s u v : ℕ) → tieRule (under w N) P s u v ≡ tieRule N P s u v
   pub pin-limit : (N : Net) (w : MetalPair) (s : ℕ) → pinDistance (under w N) s ≡ pinDistance N s

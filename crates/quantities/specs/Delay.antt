@@ -1,4 +1,4 @@
--- The delay of wire, in femtoseconds. Definitions alone.
+-- The delay of wire, in attoseconds. Definitions alone.
 use Prim.Native.Nat.{ℕ, _+_, _*_}
 use Rattle.quantities.specs.declared.metal_pair.MetalPair.{MetalPair}
 use Rattle.quantities.specs.declared.point.Point.{Point}

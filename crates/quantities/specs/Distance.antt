@@ -1,4 +1,4 @@
--- Distances, in micrometres. Definitions alone.
+-- Distances, in nanometres. Definitions alone.
 use Prim.Native.Nat.{ℕ, _+_}
 use lib.IntN.{ℤ, _-ℤ_, natAbs}
 use Rattle.quantities.specs.declared.point.Point.{Point}

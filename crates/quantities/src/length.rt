@@ -1,4 +1,4 @@
-// Lengths of wire, in micrometres.
+// Lengths of wire, in nanometres.
 ghost use mathlib.Core.Path.{_≡_};
 ghost use Prim.Native.Nat.{_+_, _≤_};
 ghost use lib.Dec.{ltb, eqb};
@@ -8,14 +8,14 @@ pub struct Length(u64);
 
 impl Length {
     // A length that was given as a number.
-    pub fn of(micrometres: u64) -> Self
-        ensures { λ r. ⌜ r .0 ≡ micrometres ⌝ }
+    pub fn of(nanometres: u64) -> Self
+        ensures { λ r. ⌜ r .0 ≡ nanometres ⌝ }
     {
-        Length(micrometres)
+        Length(nanometres)
     }
 
     // The one way to a length's number: for the product with a wire factor and for what goes out. The gate lists every place that takes it.
-    pub fn micrometres(self) -> u64
+    pub fn nanometres(self) -> u64
         ensures { λ r. ⌜ r ≡ self .0 ⌝ }
     {
         self.0

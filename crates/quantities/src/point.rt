@@ -6,7 +6,7 @@ ghost use Rattle.quantities.specs.Distance.{span, distance};
 ghost use Rattle.quantities.specs.Median.{median, medianPoint};
 use crate::length::Length;
 
-// A position in micrometres. Its coordinates are no lengths: they may be negative.
+// A position in nanometres. Its coordinates are no lengths: they may be negative.
 pub struct Point {
     pub x: i64,
     pub y: i64,

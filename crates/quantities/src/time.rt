@@ -1,4 +1,4 @@
-// Times, in femtoseconds: arrivals, delays and slacks.
+// Times, in attoseconds: arrivals, delays and slacks.
 ghost use mathlib.Core.Bool.{_&&_};
 ghost use mathlib.Core.Path.{_≡_};
 ghost use Prim.Native.Nat.{_≤_};
@@ -12,13 +12,13 @@ pub struct Time(i64);
 
 impl Time {
     // A time that was given as a number.
-    pub fn of(femtoseconds: i64) -> Self
-        ensures { λ r. ⌜ r .0 ≡ femtoseconds ⌝ }
+    pub fn of(attoseconds: i64) -> Self
+        ensures { λ r. ⌜ r .0 ≡ attoseconds ⌝ }
     {
-        Time(femtoseconds)
+        Time(attoseconds)
     }
 
-    pub fn femtoseconds(self) -> i64
+    pub fn attoseconds(self) -> i64
         ensures { λ r. ⌜ r ≡ self .0 ⌝ }
     {
         self.0

@@ -1,4 +1,4 @@
-// A wire factor, in femtoseconds per micrometre: "A length becomes a time only by multiplication with the wire factor."
+// A wire factor, in attoseconds per nanometre: "A length becomes a time only by multiplication with the wire factor."
 ghost use mathlib.Core.Path.{_≡_};
 ghost use Prim.Native.Nat.{_*_, _≤_};
 ghost use lib.IntN.{pos};
@@ -11,10 +11,10 @@ use crate::time::Time;
 pub struct WireFactor(u64);
 
 impl WireFactor {
-    pub fn of(femtoseconds_per_micrometre: u64) -> Self
-        ensures { λ r. ⌜ r .0 ≡ «femtoseconds_per_micrometre» ⌝ }
+    pub fn of(attoseconds_per_nanometre: u64) -> Self
+        ensures { λ r. ⌜ r .0 ≡ «attoseconds_per_nanometre» ⌝ }
     {
-        WireFactor(femtoseconds_per_micrometre)
+        WireFactor(attoseconds_per_nanometre)
     }
 
     // The delay of so much wire in this factor's direction.
@@ -22,7 +22,7 @@ impl WireFactor {
         requires { ⌜ FactorWithin factorReach self × (length .0 ≤ 2 * coordinateReach) ⌝ }
         ensures { λ r. ⌜ r .0 ≡ pos (lengthDelay self (length .0)) ⌝ }
     {
-        let product = self.0 * length.micrometres();
+        let product = self.0 * length.nanometres();
         Time::of(product as i64)
     }
 }

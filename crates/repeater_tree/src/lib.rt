@@ -30,8 +30,8 @@ pub extern "C" fn repeater_tree_plan(
         } => {
             *text = 0;
             *line = 0;
-            *slack = worst.femtoseconds();
-            *wire = total.micrometres();
+            *slack = worst.attoseconds();
+            *wire = total.nanometres();
             *bytes = written;
             0
         }
@@ -68,9 +68,9 @@ pub extern "C" fn repeater_tree_judge(
         } => {
             *text = 0;
             *line = 0;
-            *slack = worst.femtoseconds();
-            *wire = total.micrometres();
-            *best = maximum.femtoseconds();
+            *slack = worst.attoseconds();
+            *wire = total.nanometres();
+            *best = maximum.attoseconds();
             0
         }
         JudgeAnswer::JudgeRefused { refusal } => {

@@ -1,41 +1,41 @@
--- The ranges of document 01, 'The net text' and 'The tree listing', each once. Definitions alone.
+-- The ranges of document 01, 'The net text' and 'The tree listing', as 02's requests 4 and 5 have them, each once. Definitions alone.
 use Prim.Native.Nat.{ℕ, _≤_}
 use Rattle.quantities.specs.declared.metal_pair.MetalPair.{MetalPair}
 use Rattle.quantities.specs.declared.wire_factor.WireFactor.{WireFactor}
 use Rattle.quantities.specs.Ranges.{Within, PointWithin, FactorWithin}
 use Rattle.tree.specs.Net.{Net, size, sinkAt, required}
 
--- "X and Y -100,000 to 100,000"
+-- 02, request 5: "Positions become -100,000,000 to 100,000,000 nanometres"
 abbrev pub positionLimit : ℕ
-positionLimit = 100_000
+positionLimit = 100_000_000
 
--- "c 1 to 1,000,000"
+-- "with c 1 to 1,000,000,000"
 abbrev pub branchLimit : ℕ
-branchLimit = 1_000_000
+branchLimit = 1_000_000_000
 
--- 02, request 4: h and v, "each 1 to 10,000"
+-- 02, request 4: h and v, "each 1 to 10,000"; request 5: "h and v keep their numbers"
 abbrev pub wireFactorLimit : ℕ
 wireFactorLimit = 10_000
 
--- "t -2,000,000,000,000 to 2,000,000,000,000"
+-- 01: "t -2,000,000,000,000 to 2,000,000,000,000"; request 5: "the ends of t, a and W 1,000 times as far out"
 abbrev pub needLimit : ℕ
-needLimit = 2_000_000_000_000
+needLimit = 2_000_000_000_000_000
 
--- "n 1 to 512"
+-- 01: "n 1 to 512"
 abbrev pub sinkLimit : ℕ
 sinkLimit = 512
 
--- "a (required arrival) -1,000,000,000,000 to 1,000,000,000,000"
+-- 01: "a (required arrival) -1,000,000,000,000 to 1,000,000,000,000", "1,000 times as far out"
 abbrev pub requiredLimit : ℕ
-requiredLimit = 1_000_000_000_000
+requiredLimit = 1_000_000_000_000_000
 
--- "W -4,000,000,000,000 to 4,000,000,000,000"
+-- 01: "W -4,000,000,000,000 to 4,000,000,000,000", "1,000 times as far out"
 abbrev pub slackLimit : ℕ
-slackLimit = 4_000_000_000_000
+slackLimit = 4_000_000_000_000_000
 
--- "L 0 to 1,000,000,000"
+-- request 5: "and L to 1,000,000,000,000"
 abbrev pub wireLimit : ℕ
-wireLimit = 1_000_000_000
+wireLimit = 1_000_000_000_000
 
 abbrev pub FactorInRange : WireFactor → Type 0
 FactorInRange f = (1 ≤ f .0) × FactorWithin wireFactorLimit f

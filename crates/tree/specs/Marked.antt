@@ -86,7 +86,7 @@ twoMetals horizontal vertical = record {
   sinks = sink (pos 10) (pos 0) (pos 100) ∷ (sink (pos 4) (pos 6) (pos 110) ∷ (sink (pos 10) (pos 10) (pos 150) ∷ []));
 }
 
--- 02, request 4, "nearness .. stay plain micrometres": all edges tie for sink 3, which is 6 from sink 1, straight across, and 4 from sink 2, straight up
+-- 02, request 4, "nearness .. stay plain": all edges tie for sink 3, which is 6 from sink 1, straight across, and 4 from sink 2, straight up
 abbrev pub plainNearness : Net
 plainNearness = record {
   root = point (pos 0) (pos 0);

@@ -37,7 +37,7 @@ fn follow_parent(
     if levels[u] < level {
         let least = Time::of(slacks[u]).minus(branch);
         levels[u] = level;
-        slacks[u] = least.femtoseconds();
+        slacks[u] = least.attoseconds();
     }
 }
 
@@ -75,7 +75,7 @@ fn hand_up(parents: &[usize], slacks: &mut [i64], v: usize, left: usize, least: 
     let mut more = left;
     while 0 < more && least.is_less(Time::of(slacks[at])) {
         let up = parents[at];
-        slacks[at] = least.femtoseconds();
+        slacks[at] = least.attoseconds();
         at = up;
         more -= 1;
     }
@@ -102,9 +102,9 @@ fn hang_new(
     levels[s] = deeper;
     slacks[s] = Time::of(own[s])
         .minus(branch.times(level as u64))
-        .femtoseconds();
+        .attoseconds();
     levels[b] = level;
-    slacks[b] = least.femtoseconds();
+    slacks[b] = least.attoseconds();
 }
 
 // Vertex v and all under it become one level deeper. A sink has none under it.
@@ -123,7 +123,7 @@ fn lower(
     ensures { λ r. ⌜ ((us : List ℕ) (j : ℕ) (D : ℕ → ℕ) → Chained m us (now (below .entry)) → j < m → getD us j 0 ≡ v → DeepensUnder (now (parents .entry)) us n m j (now (levels .entry)) D → Lowered us m D (branch .0) (now (levels .entry)) (now (slacks .entry)) 0 (now (levels .exit)) (now (slacks .exit))) ⌝ }
 {
     levels[v] = levels[v] + 1;
-    slacks[v] = Time::of(slacks[v]).minus(branch).femtoseconds();
+    slacks[v] = Time::of(slacks[v]).minus(branch).attoseconds();
     if n < v {
         lower_below(branch, parents, below, m, v, levels, slacks);
     }
@@ -134,7 +134,7 @@ fn worst_with(slacks: &mut [i64], least: Time)
     requires { ⌜ 0 < length (now slacks) ⌝ }
     ensures { λ r. ⌜ now (slacks .exit) ≡ set (now (slacks .entry)) 0 (minℤ (getD (now (slacks .entry)) 0 (pos 0)) (least .0)) ⌝ }
 {
-    slacks[0] = Time::of(slacks[0]).least(least).femtoseconds();
+    slacks[0] = Time::of(slacks[0]).least(least).attoseconds();
 }
 
 // Insertion k + 1 splits the edge to v for sink s: the numbers of the enlarged tree are gathered. `parents` and `below` are those from before the split.

@@ -80,8 +80,8 @@ fn deepen(own: &[i64], slacks: &mut [i64], branch: Time, v: usize, s: usize)
 {
     let lowered = Time::of(slacks[v]).minus(branch);
     let more = Time::of(own[s]).minus(Time::of(own[v]));
-    slacks[v] = lowered.femtoseconds();
-    slacks[s] = more.plus(lowered).femtoseconds();
+    slacks[v] = lowered.attoseconds();
+    slacks[s] = more.plus(lowered).attoseconds();
 }
 
 // The next sink, at place k + 1 of the order, goes in beside the roomiest. The worst slack is returned.

@@ -1,22 +1,22 @@
-// The ranges of 01, each once. The same numbers stand in specs/Limits; `limits_agree` fails where one of the two moves.
+// The ranges of 01 as 02's requests 4 and 5 have them, each once. The same numbers stand in specs/Limits; `limits_agree` fails where one of the two moves.
 ghost use mathlib.Core.Path.{_≡_};
 ghost use Rattle.tree.specs.Limits.{positionLimit, branchLimit, wireFactorLimit, needLimit, sinkLimit, requiredLimit, slackLimit, wireLimit};
 
-pub const POSITION_LIMIT: u64 = 100_000;
+pub const POSITION_LIMIT: u64 = 100_000_000;
 
-pub const BRANCH_LIMIT: u64 = 1_000_000;
+pub const BRANCH_LIMIT: u64 = 1_000_000_000;
 
 pub const WIRE_FACTOR_LIMIT: u64 = 10_000;
 
-pub const NEED_LIMIT: u64 = 2_000_000_000_000;
+pub const NEED_LIMIT: u64 = 2_000_000_000_000_000;
 
 pub const SINK_LIMIT: u64 = 512;
 
-pub const REQUIRED_LIMIT: u64 = 1_000_000_000_000;
+pub const REQUIRED_LIMIT: u64 = 1_000_000_000_000_000;
 
-pub const SLACK_LIMIT: u64 = 4_000_000_000_000;
+pub const SLACK_LIMIT: u64 = 4_000_000_000_000_000;
 
-pub const WIRE_LIMIT: u64 = 1_000_000_000;
+pub const WIRE_LIMIT: u64 = 1_000_000_000_000;
 
 // The constants are those of specs/Limits.
 pub fn limits_agree()

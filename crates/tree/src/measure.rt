@@ -153,7 +153,7 @@ fn spend(
     let mut i = 0;
     while i < 2 * n - 1 {
         let v = queue[i];
-        spent[v] = spent_at(h, n, parents, xs, ys, spent, v).femtoseconds();
+        spent[v] = spent_at(h, n, parents, xs, ys, spent, v).attoseconds();
         i += 1;
     }
 }
@@ -167,7 +167,7 @@ fn sink_slacks(n: usize, required: &[i64], slacks: &mut [i64])
     while s <= n {
         slacks[s] = Time::of(required[s])
             .minus(Time::of(slacks[s]))
-            .femtoseconds();
+            .attoseconds();
         s += 1;
     }
 }

@@ -1,21 +1,24 @@
--- The text of a net in range, or of a listing in range, is within its length; so it is in the format, that of a net where its pins are near enough. Assumes nothing.
+-- The text of a net in range, or of a listing in range, is within its length; so it is in the format, that of a net where its pins are near enough, and so are the longest. Assumes nothing.
 use Prim.Native.Nat.{ℕ, zero, suc, _+_, _*_, _-_, _^_, _≤_, _<_}
-use mathlib.Core.Path.{refl}
-use mathlib.Core.List.{List, [], _∷_}
-use lib.ListN.{length, length-append}
-use lib.IntN.{ℤ, pos}
+use mathlib.Core.Path.{_≡_, refl, sym, ap, _∙_, subst}
+use mathlib.Core.List.{List, [], _∷_, map}
+use lib.ListN.{length, replicate, length-append, length-replicate, getD-replicate, List·getD-map}
+use lib.IntN.{ℤ, pos, negℤ}
 use mathlib.Core.Bool.{true, false}
 use lib.Dec.{ltb}
 use native.Mathlib.Omega.{arith}
-use Rattle.quantities.specs.Inner.Linear.{abs-le}
-use Rattle.quantities.specs.Ranges.{Within}
+use Rattle.quantities.specs.Inner.Linear.{whole, abs-le}
+use Rattle.quantities.specs.Distance.{distance}
+use Rattle.quantities.specs.Ranges.{Within, PointWithin}
+use Rattle.quantities.proofs.Laws.Distance.{distance-self}
 use Rattle.tree.specs.Lists.{range}
-use Rattle.tree.specs.Net.{Net, Sink, size}
+use Rattle.tree.specs.Net.{Net, Sink, size, sinkAt, required}
 use Rattle.tree.specs.Tree.{parentOf}
 use Rattle.tree.specs.Limits.{positionLimit, branchLimit, wireFactorLimit, needLimit, sinkLimit, requiredLimit, slackLimit, wireLimit, InRange}
 use Rattle.formats.specs.Limits.{netLengthLimit, pinLimit, listingLengthLimit}
-use Rattle.formats.specs.Decimal.{show}
+use Rattle.formats.specs.Decimal.{digits, showNat, show}
 use Rattle.formats.specs.NetText.{sinkKey, sinksText, netLines, netText, pinDistance, InFormat}
+use Rattle.formats.specs.TextLengths.{corner, longestNet, longestListing, TextLengths}
 use Rattle.formats.specs.ListingText.{Listing, leafKey, nodeKey, nodePoint, leafText, nodeText, linesText, listingText, ListingInRange, ListingInFormat}
 use Rattle.formats.proofs.Laws.Numbers.Decimal.{showNat-length, show-length}
 use Rattle.formats.proofs.Laws.Lines.Elements.{All}
@@ -132,3 +135,55 @@ net-in-format N h near = record { spelled = refl; in-range = h; near = near; sho
 
 pub listing-in-format : (n : ℕ) (G : Listing) → ListingInRange n G → ListingInFormat n (listingText n G) G
 listing-in-format n G h = record { spelled = refl; in-range = h; short = listing-short n G h }
+
+-- ---- the longest of both
+
+abbrev longestSink : Sink
+longestSink = record { point = corner; required = negℤ (pos requiredLimit) }
+
+corner-within : PointWithin positionLimit corner
+corner-within = ((omega (arith, whole), omega (arith, whole)), (omega (arith, whole), omega (arith, whole)))
+
+longest-at : (s : ℕ) → 1 ≤ s → s ≤ size longestNet → sinkAt longestNet s ≡ corner
+longest-at zero h l = absurd (omega arith)
+longest-at (suc i) h l = List·getD-map (λ s. s .point) (replicate sinkLimit longestSink) i longestSink ∙ ap (λ s. s .point) (getD-replicate sinkLimit i longestSink longestSink (omega (arith, length-replicate sinkLimit longestSink)))
+
+longest-due : (s : ℕ) → 1 ≤ s → s ≤ size longestNet → required longestNet s ≡ negℤ (pos requiredLimit)
+longest-due zero h l = absurd (omega arith)
+longest-due (suc i) h l =
+    List·getD-map (λ s. s .required) (replicate sinkLimit longestSink) i (record { point = corner; required = pos 0 })
+    ∙ ap (λ s. s .required) (getD-replicate sinkLimit i longestSink (record { point = corner; required = pos 0 }) (omega (arith, length-replicate sinkLimit longestSink)))
+
+longest-in-range : InRange longestNet
+longest-in-range = record {
+  root = corner-within;
+  branch = (omega arith, omega arith);
+  wire = ((omega arith, omega arith), (omega arith, omega arith));
+  need = (omega (arith, whole), omega (arith, whole));
+  sinks = (omega (arith, length-replicate sinkLimit longestSink), omega (arith, length-replicate sinkLimit longestSink));
+  points = λ s h l. subst (PointWithin positionLimit) (sym (longest-at s h l)) corner-within;
+  required = λ s h l. subst (Within requiredLimit) (sym (longest-due s h l)) (omega (arith, whole), omega (arith, whole));
+}
+
+longest-near : (v : ℕ) → 1 ≤ v → v ≤ size longestNet → pinDistance longestNet v ≤ pinLimit
+longest-near v h l = let e : pinDistance longestNet v ≡ 0 = ap (distance corner) (longest-at v h l) ∙ distance-self corner in omega arith
+
+longest-listed : ListingInRange sinkLimit longestListing
+longest-listed = record {
+  slack = (omega (arith, whole), omega (arith, whole));
+  wire = omega arith;
+  sinks = (omega arith, omega arith);
+  parents-all = omega (arith, length-replicate (2 * sinkLimit - 1) (2 * sinkLimit - 1));
+  points-all = length-replicate (sinkLimit - 1) corner;
+  parents = λ i l. omega (arith, getD-replicate (2 * sinkLimit - 1) i (2 * sinkLimit - 1) 0 (omega (arith, length-replicate (2 * sinkLimit - 1) (2 * sinkLimit - 1))));
+  points = λ i l. subst (PointWithin positionLimit) (sym (getD-replicate (sinkLimit - 1) i corner _ (omega (arith, length-replicate (sinkLimit - 1) corner)))) corner-within;
+}
+
+pub text-lengths : TextLengths
+unfolding netLines listingText digits showNat show
+text-lengths = record {
+  nets = net-short;
+  listings = listing-short;
+  longest-net = (net-in-format longestNet longest-in-range longest-near, refl);
+  longest-listing = (listing-in-format sinkLimit longestListing longest-listed, refl);
+}

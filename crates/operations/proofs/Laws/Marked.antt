@@ -26,7 +26,7 @@ use Rattle.formats.specs.Reading.Numbers.{lead, natural, field}
 use Rattle.formats.specs.Reading.Numbers.{value as digitsValue}
 use Rattle.formats.specs.Reading.Rows.{numberThen, rowIn, begins, lineIn}
 use Rattle.formats.specs.Outcome.{Outcome, value, refused, andThen}
-use Rattle.formats.specs.declared.refusal.Text.the-variants.{InNet}
+use Rattle.formats.specs.declared.refusal.Text.the-variants.{InNet, InListing}
 use Rattle.formats.specs.declared.refusal.Refusal.{Refusal}
 use Rattle.formats.specs.declared.refusal.Refusal.the-variants.{NotDue, OutOfRange, Unreachable, FarPin}
 use Rattle.formats.specs.Reading.Nets.{readNet}
@@ -34,7 +34,7 @@ use Rattle.formats.specs.ListingText.{Listing, listingText}
 use Rattle.formats.specs.Reading.Listings.{readListing}
 use Rattle.operations.specs.Accepting.{acceptTree}
 use Rattle.operations.specs.Answers.{planOf, planListing, planNet, judgement, judgeOf, Judgement}
-use Rattle.operations.specs.Marked.{textA, textA1, listingA, textThree, listingThree, textRootNearest, listingRootNearest, textNearerSink, listingNearerSink, pinText, metalsText, listingMetals, TurnedAway, Marked}
+use Rattle.operations.specs.Marked.{textA, textA1, listingA, textThree, listingThree, textRootNearest, listingRootNearest, textNearerSink, listingNearerSink, pinText, metalsText, listingMetals, statedA, rangeText, TurnedAway, Marked}
 use Rattle.formats.proofs.Laws.Nets.NetTexts.{net-sound}
 use Rattle.operations.proofs.Laws.Answers.{plan-refused, judge-refused, Ends, unreachable, short, written, ends}
 use Rattle.operations.proofs.Laws.Judging.{judge-read}
@@ -73,6 +73,10 @@ judged-over net N r s G e = judge-read net N r s ∙ ap (λ o. andThen (andThen 
 judged : (s : List ℕ) (G : Listing) → readListing 3 s ≡ value G → judgeOf textA s ≡ judgedTree netA G
 judged s G e = judged-over textA netA read-A s G e
 
+-- a listing of A that is refused as it is read
+listing-refused : (s : List ℕ) (e : Refusal) → readListing 3 s ≡ refused e → judgeOf textA s ≡ refused e
+listing-refused s e h = judge-read textA netA read-A s ∙ ap (λ o. andThen (andThen o (acceptTree netA)) (λ G. value (judgement (record { net = netA; listing = G })))) h
+
 listed : ℤ → ℕ → List ℕ → Listing
 listed slack wire parents = record { slack = slack; wire = wire; tree = tree-of parents }
 
@@ -91,7 +95,7 @@ unfolding wireLength worstSlack plan planBy minℤ maxℤ median medianPoint del
 wire-A = refl
 
 -- a net that is read as N and reaches its need, planned
-planned-over : (net : List ℕ) (N : Net) → readNet net ≡ value N → (slack : ℤ) (wire : ℕ) (bytes : List ℕ) → worstSlack N (plan N) ≡ slack → wireLength N (plan N) ≡ wire → planListing N ≡ bytes → N .need ≤ℤ slack
+pub planned-over : (net : List ℕ) (N : Net) → readNet net ≡ value N → (slack : ℤ) (wire : ℕ) (bytes : List ℕ) → worstSlack N (plan N) ≡ slack → wireLength N (plan N) ≡ wire → planListing N ≡ bytes → N .need ≤ℤ slack
     → (room : ℕ) → length bytes ≤ room → planOf net room ≡ value (record { slack = slack; wire = wire; bytes = bytes })
 unfolding planOf
 planned-over net N r slack wire bytes s w l reached room h = ap (λ o. andThen o (λ N. planNet N room)) r ∙ go (ends N room)
@@ -204,17 +208,26 @@ marked = record {
   branch-0 = turned-away _ (OutOfRange InNet 2) refl;
   need-minus-0 = turned-away _ (NotDue InNet 4) refl;
   sinks-513 = turned-away _ (OutOfRange InNet 5) refl;
-  across-near = net-sound (pinText "60000,0" "100000,0") _ refl;
-  corner-near = net-sound (pinText "-100000,100000" "-100000,100000") _ refl;
-  across = turned-away (pinText "0,0" "100000,0") (FarPin 6) refl;
-  root-x-range = turned-away (pinText "100001,0" "100000,0") (OutOfRange InNet 1) refl;
-  root-y-range = turned-away (pinText "0,-100001" "0,-100000") (OutOfRange InNet 1) refl;
-  sink-x-range = turned-away (pinText "0,0" "100001,0") (OutOfRange InNet 6) refl;
-  sink-y-range = turned-away (pinText "0,100000" "0,100001") (OutOfRange InNet 6) refl;
-  at-limit = net-sound (pinText "0,0" "40000,0") _ refl;
-  past-limit = turned-away (pinText "0,0" "40001,0") (FarPin 6) refl;
-  both-at-limit = net-sound (pinText "-10000,5000" "5000,-20000") _ refl;
-  both-past-limit = turned-away (pinText "-10000,5000" "5000,-20001") (FarPin 6) refl;
+  across-near = net-sound (pinText "60000000,0" "100000000,0") _ refl;
+  corner-near = net-sound (pinText "-100000000,100000000" "-100000000,100000000") _ refl;
+  across = turned-away (pinText "0,0" "100000000,0") (FarPin 6) refl;
+  root-x-range = turned-away (pinText "100000001,0" "100000000,0") (OutOfRange InNet 1) refl;
+  root-y-range = turned-away (pinText "0,-100000001" "0,-100000000") (OutOfRange InNet 1) refl;
+  sink-x-range = turned-away (pinText "0,0" "100000001,0") (OutOfRange InNet 6) refl;
+  sink-y-range = turned-away (pinText "0,100000000" "0,100000001") (OutOfRange InNet 6) refl;
+  at-limit = net-sound (pinText "0,0" "40000000,0") _ refl;
+  past-limit = turned-away (pinText "0,0" "40000001,0") (FarPin 6) refl;
+  both-at-limit = net-sound (pinText "-10000000,5000000" "5000000,-20000000") _ refl;
+  both-past-limit = turned-away (pinText "-10000000,5000000" "5000000,-20000001") (FarPin 6) refl;
+  low-ends = net-sound (rangeText "1" "-2000000000000000" "-1000000000000000") _ refl;
+  high-ends = net-sound (rangeText "1000000000" "2000000000000000" "1000000000000000") _ refl;
+  branch-past = turned-away (rangeText "1000000001" "0" "0") (OutOfRange InNet 2) refl;
+  need-past = turned-away (rangeText "20" "-2000000000000001" "0") (OutOfRange InNet 4) refl;
+  required-past = turned-away (rangeText "20" "0" "1000000000000001") (OutOfRange InNet 6) refl;
+  slack-end = judged _ (listed (negℤ (pos 4_000_000_000_000_000)) 32 (5 ∷ (5 ∷ (4 ∷ (0 ∷ (4 ∷ [])))))) refl;
+  slack-past = listing-refused (statedA "-4000000000000001" "32") (OutOfRange InListing 1) refl;
+  wire-end = judged _ (listed (pos 0) 1_000_000_000_000 (5 ∷ (5 ∷ (4 ∷ (0 ∷ (4 ∷ [])))))) refl;
+  wire-past = listing-refused (statedA "0" "1000000000001") (OutOfRange InListing 2) refl;
   metals-format = net-sound (metalsText "2,6") (twoMetals 2 6) read-metals;
   metals-plan = metals-planned;
   metals-judge = metals-judged;

@@ -1,7 +1,7 @@
 -- The laws of the delay of a straight wire, each shown for one direction first. Everything above rests on these alone, and not on the delay's definition. Assumes nothing.
 use Prim.Native.Nat.{ℕ, _+_, _*_, _≤_}
-use mathlib.Core.Path.{_≡_, ap, _∙_}
-use native.Mathlib.Nat.{mul-add, mul-zero, mul-le-mul, mul-le-mul-left}
+use mathlib.Core.Path.{_≡_, sym, ap, ap₂, _∙_}
+use native.Mathlib.Nat.{mul-add, add-mul, mul-assoc, mul-zero, mul-le-mul, mul-le-mul-left}
 use native.Mathlib.Omega.{arith}
 use lib.IntN.{ℤ}
 use Rattle.quantities.specs.declared.metal_pair.MetalPair.{MetalPair}
@@ -29,6 +29,9 @@ module _ (f : WireFactor) where
   pub along-within : (m k : ℕ) (a b : ℤ) → FactorWithin m f → Within k a → Within k b → lengthDelay f (span a b) ≤ m * (2 * k)
   along-within m k a b h p q = mul-le-mul h (span-within k a b p q)
 
+  along-scaled : (k l m : ℕ) → m ≡ l * k → lengthDelay f m ≡ lengthDelay f l * k
+  along-scaled k l m e = ap (lengthDelay f) e ∙ sym (mul-assoc (f .0) l k)
+
 -- ---- and in both
 
 module _ (w : MetalPair) where
@@ -47,6 +50,13 @@ module _ (w : MetalPair) where
 
   pub delay-through-median₂ : (p q r : Point) → delay w p (medianPoint p q r) + delay w (medianPoint p q r) r ≡ delay w p r
   delay-through-median₂ p q r = rw (median-point-swap p q r) (delay-through-median p r q)
+
+  -- where |dx| and |dy| are k times as large, so is the delay
+  pub delay-scaled : (k : ℕ) (p q p′ q′ : Point) → span (p′ .x) (q′ .x) ≡ span (p .x) (q .x) * k → span (p′ .y) (q′ .y) ≡ span (p .y) (q .y) * k → delay w p′ q′ ≡ delay w p q * k
+  unfolding delay
+  delay-scaled k p q p′ q′ a u =
+      ap₂ _+_ (along-scaled (w .horizontal) k (span (p .x) (q .x)) (span (p′ .x) (q′ .x)) a) (along-scaled (w .vertical) k (span (p .y) (q .y)) (span (p′ .y) (q′ .y)) u)
+      ∙ sym (add-mul (lengthDelay (w .horizontal) (span (p .x) (q .x))) (lengthDelay (w .vertical) (span (p .y) (q .y))) k)
 
 -- a bound: between points in a range, with factors in a range
 pub delay-within : (m k : ℕ) (w : MetalPair) (p q : Point) → FactorsWithin m w → PointWithin k p → PointWithin k q → delay w p q ≤ m * (4 * k)

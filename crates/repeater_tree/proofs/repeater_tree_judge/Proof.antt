@@ -14,14 +14,14 @@ judge-requires c κs = search needs
 enum-known-worst : tie.Need-enum-known-worst
 enum-known-worst c = search needs
 
-femtoseconds-requires : tie.Need-femtoseconds-requires
-femtoseconds-requires c κs = search needs
+attoseconds-requires : tie.Need-attoseconds-requires
+attoseconds-requires c κs = search needs
 
-micrometres-requires : tie.Need-micrometres-requires
-micrometres-requires c κs = search needs
+nanometres-requires : tie.Need-nanometres-requires
+nanometres-requires c κs = search needs
 
-femtoseconds-requires-2 : tie.Need-femtoseconds-requires-2
-femtoseconds-requires-2 c κs = search needs
+attoseconds-requires-2 : tie.Need-attoseconds-requires-2
+attoseconds-requires-2 c κs = search needs
 
 enum-known-refusal : tie.Need-enum-known-refusal
 enum-known-refusal c = search needs
@@ -31,9 +31,9 @@ tell-requires c κs = search needs
 
 returns : tie.Need-returns
 returns c =
-    let slack = c .before .before .femtoseconds in
-    let wire = c .before .micrometres in
-    let best = c .femtoseconds2 in
+    let slack = c .before .before .attoseconds in
+    let wire = c .before .nanometres in
+    let best = c .attoseconds2 in
     (λ i. record {
       number = 0;
       text = 0;
@@ -56,9 +56,9 @@ repeater-tree-judge-spec =
     (tie.spec
     judge-requires
     enum-known-worst
-    femtoseconds-requires
-    micrometres-requires
-    femtoseconds-requires-2
+    attoseconds-requires
+    nanometres-requires
+    attoseconds-requires-2
     enum-known-refusal
     tell-requires
     returns

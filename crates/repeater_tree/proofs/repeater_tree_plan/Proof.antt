@@ -14,11 +14,11 @@ plan-requires c κs = search needs
 enum-known-worst : tie.Need-enum-known-worst
 enum-known-worst c = search needs
 
-femtoseconds-requires : tie.Need-femtoseconds-requires
-femtoseconds-requires c κs = search needs
+attoseconds-requires : tie.Need-attoseconds-requires
+attoseconds-requires c κs = search needs
 
-micrometres-requires : tie.Need-micrometres-requires
-micrometres-requires c κs = search needs
+nanometres-requires : tie.Need-nanometres-requires
+nanometres-requires c κs = search needs
 
 enum-known-refusal : tie.Need-enum-known-refusal
 enum-known-refusal c = search needs
@@ -31,8 +31,8 @@ same-length c = search needs
 
 returns : tie.Need-returns
 returns c =
-    let slack = c .before .femtoseconds in
-    let wire = c .micrometres in
+    let slack = c .before .attoseconds in
+    let wire = c .nanometres in
     let says = c .before .before .before .before .before .before .before .plan .ensures in (
       (λ i. record {
         number = 0;
@@ -64,8 +64,8 @@ repeater-tree-plan-spec =
     (tie.spec
     plan-requires
     enum-known-worst
-    femtoseconds-requires
-    micrometres-requires
+    attoseconds-requires
+    nanometres-requires
     enum-known-refusal
     tell-requires
     same-length

@@ -41,14 +41,14 @@ front-room : (c : tie.Start) → 0 + length (slackLine c ++ wireLine c) ≤ leng
 front-room c = fits-first (c .args .out .now) 0 (slackLine c ++ wireLine c) (bestLine c) (room c)
 
 -- the numbers that are put
-slack-back : (c : tie.After-femtoseconds) → rd (c .femtoseconds .result) ≡ c .before .before .before .before .args .slack .0
-slack-back c = ap rd (c .femtoseconds .ensures) ∙ within-back slackLimit _ (omega arith) (c .before .before .before .before .pre .0 .0)
+slack-back : (c : tie.After-attoseconds) → rd (c .attoseconds .result) ≡ c .before .before .before .before .args .slack .0
+slack-back c = ap rd (c .attoseconds .ensures) ∙ within-back slackLimit _ (omega arith) (c .before .before .before .before .pre .0 .0)
 
-wire-back : (c : tie.After-micrometres) → toZ w64 (c .micrometres .result) ≡ pos (c .before .before .before .before .before .before .before .before .before .before .args .wire .0)
-wire-back c = ap (toZ w64) (c .micrometres .ensures) ∙ plain-back _ (omega (arith, c .before .before .before .before .before .before .before .before .before .before .pre .0 .1))
+wire-back : (c : tie.After-nanometres) → toZ w64 (c .nanometres .result) ≡ pos (c .before .before .before .before .before .before .before .before .before .before .args .wire .0)
+wire-back c = ap (toZ w64) (c .nanometres .ensures) ∙ plain-back _ (omega (arith, c .before .before .before .before .before .before .before .before .before .before .pre .0 .1))
 
-best-back : (c : tie.After-femtoseconds2) → rd (c .femtoseconds2 .result) ≡ c .before .before .before .before .before .before .before .before .before .before .before .before .before .before .before .before .args .best .0
-best-back c = ap rd (c .femtoseconds2 .ensures) ∙ within-back slackLimit _ (omega arith) (c .before .before .before .before .before .before .before .before .before .before .before .before .before .before .before .before .pre .0 .2)
+best-back : (c : tie.After-attoseconds2) → rd (c .attoseconds2 .result) ≡ c .before .before .before .before .before .before .before .before .before .before .before .before .before .before .before .before .args .best .0
+best-back c = ap rd (c .attoseconds2 .ensures) ∙ within-back slackLimit _ (omega arith) (c .before .before .before .before .before .before .before .before .before .before .before .before .before .before .before .before .pre .0 .2)
 
 -- the first line, and the first two
 slack-put : (c : tie.After-put-line1) → Puts (c .before .before .before .before .before .args .out .now) 0 (slackLine (c .before .before .before .before .before)) (c .put-line1 .result) (c .put-line1 .last .0)
@@ -63,8 +63,8 @@ front-put c =
 slice-aggregate-put-line1 : tie.Need-slice-aggregate-put-line1
 slice-aggregate-put-line1 c = search needs
 
-femtoseconds-requires : tie.Need-femtoseconds-requires
-femtoseconds-requires c κs = search needs
+attoseconds-requires : tie.Need-attoseconds-requires
+attoseconds-requires c κs = search needs
 
 put-line1-requires : tie.Need-put-line1-requires
 put-line1-requires c κs =
@@ -74,8 +74,8 @@ put-line1-requires c κs =
 slice-aggregate-put-line1-2 : tie.Need-slice-aggregate-put-line1-2
 slice-aggregate-put-line1-2 c = search needs
 
-micrometres-requires : tie.Need-micrometres-requires
-micrometres-requires c κs = search needs
+nanometres-requires : tie.Need-nanometres-requires
+nanometres-requires c κs = search needs
 
 cast-put-line1 : tie.Need-cast-put-line1
 cast-put-line1 c = search needs
@@ -88,8 +88,8 @@ put-line1-requires-2 c κs =
 slice-aggregate-put-line1-3 : tie.Need-slice-aggregate-put-line1-3
 slice-aggregate-put-line1-3 c = search needs
 
-femtoseconds-requires-2 : tie.Need-femtoseconds-requires-2
-femtoseconds-requires-2 c κs = search needs
+attoseconds-requires-2 : tie.Need-attoseconds-requires-2
+attoseconds-requires-2 c κs = search needs
 
 put-line1-requires-3 : tie.Need-put-line1-requires-3
 put-line1-requires-3 c κs =
@@ -110,14 +110,14 @@ put-measures-spec =
     tie.close
     (tie.spec
     slice-aggregate-put-line1
-    femtoseconds-requires
+    attoseconds-requires
     put-line1-requires
     slice-aggregate-put-line1-2
-    micrometres-requires
+    nanometres-requires
     cast-put-line1
     put-line1-requires-2
     slice-aggregate-put-line1-3
-    femtoseconds-requires-2
+    attoseconds-requires-2
     put-line1-requires-3
     same-length
     returns)

@@ -24,11 +24,11 @@ use Rattle.formats.proofs.listing_length.head_length.Tie as tie
 slack-writable : (c : tie.Start) → Writable (c .args .slack .0)
 slack-writable c = within-writable slackLimit _ (omega arith) (c .pre .0)
 
-slack-back : (c : tie.After-femtoseconds) → rd (c .femtoseconds .result) ≡ c .before .before .args .slack .0
-slack-back c = ap rd (c .femtoseconds .ensures) ∙ within-back slackLimit _ (omega arith) (c .before .before .pre .0)
+slack-back : (c : tie.After-attoseconds) → rd (c .attoseconds .result) ≡ c .before .before .args .slack .0
+slack-back c = ap rd (c .attoseconds .ensures) ∙ within-back slackLimit _ (omega arith) (c .before .before .pre .0)
 
-wire-back : (c : tie.After-micrometres) → toZ w64 (c .micrometres .result) ≡ pos (c .before .before .before .before .before .args .wire .0)
-wire-back c = ap (toZ w64) (c .micrometres .ensures) ∙ plain-back _ (omega (arith, c .before .before .before .before .before .pre .1))
+wire-back : (c : tie.After-nanometres) → toZ w64 (c .nanometres .result) ≡ pos (c .before .before .before .before .before .args .wire .0)
+wire-back c = ap (toZ w64) (c .nanometres .ensures) ∙ plain-back _ (omega (arith, c .before .before .before .before .before .pre .1))
 
 sinks-back : (c : tie.Start) → toZ w64 (c .args .n) ≡ pos (c .args .n)
 sinks-back c = plain-back (c .args .n) (omega (arith, c .pre .2))
@@ -61,8 +61,8 @@ sinks-is c =
 slice-aggregate-line1-length : tie.Need-slice-aggregate-line1-length
 slice-aggregate-line1-length c = search needs
 
-femtoseconds-requires : tie.Need-femtoseconds-requires
-femtoseconds-requires c κs = search needs
+attoseconds-requires : tie.Need-attoseconds-requires
+attoseconds-requires c κs = search needs
 
 line1-length-requires : tie.Need-line1-length-requires
 line1-length-requires c κs = rw (slack-back c) (slack-writable (c .before .before))
@@ -70,8 +70,8 @@ line1-length-requires c κs = rw (slack-back c) (slack-writable (c .before .befo
 slice-aggregate-line1-length-2 : tie.Need-slice-aggregate-line1-length-2
 slice-aggregate-line1-length-2 c = search needs
 
-micrometres-requires : tie.Need-micrometres-requires
-micrometres-requires c κs = search needs
+nanometres-requires : tie.Need-nanometres-requires
+nanometres-requires c κs = search needs
 
 cast-line1-length : tie.Need-cast-line1-length
 cast-line1-length c = search needs
@@ -106,10 +106,10 @@ head-length-spec =
     tie.close
     (tie.spec
     slice-aggregate-line1-length
-    femtoseconds-requires
+    attoseconds-requires
     line1-length-requires
     slice-aggregate-line1-length-2
-    micrometres-requires
+    nanometres-requires
     cast-line1-length
     line1-length-requires-2
     add-result

@@ -37,11 +37,11 @@ front-room : (c : tie.Start) → 0 + length (slackLine c ++ wireLine c) ≤ leng
 front-room c = fits-first (c .args .out .now) 0 (slackLine c ++ wireLine c) (sinksLine c) (room c)
 
 -- the numbers that are put
-slack-back : (c : tie.After-femtoseconds) → rd (c .femtoseconds .result) ≡ c .before .before .before .before .args .slack .0
-slack-back c = ap rd (c .femtoseconds .ensures) ∙ within-back slackLimit _ (omega arith) (c .before .before .before .before .pre .0 .0)
+slack-back : (c : tie.After-attoseconds) → rd (c .attoseconds .result) ≡ c .before .before .before .before .args .slack .0
+slack-back c = ap rd (c .attoseconds .ensures) ∙ within-back slackLimit _ (omega arith) (c .before .before .before .before .pre .0 .0)
 
-wire-back : (c : tie.After-micrometres) → toZ w64 (c .micrometres .result) ≡ pos (c .before .before .before .before .before .before .before .before .before .before .args .wire .0)
-wire-back c = ap (toZ w64) (c .micrometres .ensures) ∙ plain-back _ (omega (arith, c .before .before .before .before .before .before .before .before .before .before .pre .0 .1))
+wire-back : (c : tie.After-nanometres) → toZ w64 (c .nanometres .result) ≡ pos (c .before .before .before .before .before .before .before .before .before .before .args .wire .0)
+wire-back c = ap (toZ w64) (c .nanometres .ensures) ∙ plain-back _ (omega (arith, c .before .before .before .before .before .before .before .before .before .before .pre .0 .1))
 
 sinks-back : (c : tie.Start) → toZ w64 (c .args .n) ≡ pos (c .args .n)
 sinks-back c = plain-back (c .args .n) (omega (arith, c .pre .0 .2))
@@ -65,8 +65,8 @@ front-put c =
 slice-aggregate-put-line1 : tie.Need-slice-aggregate-put-line1
 slice-aggregate-put-line1 c = search needs
 
-femtoseconds-requires : tie.Need-femtoseconds-requires
-femtoseconds-requires c κs = search needs
+attoseconds-requires : tie.Need-attoseconds-requires
+attoseconds-requires c κs = search needs
 
 put-line1-requires : tie.Need-put-line1-requires
 put-line1-requires c κs =
@@ -76,8 +76,8 @@ put-line1-requires c κs =
 slice-aggregate-put-line1-2 : tie.Need-slice-aggregate-put-line1-2
 slice-aggregate-put-line1-2 c = search needs
 
-micrometres-requires : tie.Need-micrometres-requires
-micrometres-requires c κs = search needs
+nanometres-requires : tie.Need-nanometres-requires
+nanometres-requires c κs = search needs
 
 cast-put-line1 : tie.Need-cast-put-line1
 cast-put-line1 c = search needs
@@ -112,10 +112,10 @@ put-head-spec =
     tie.close
     (tie.spec
     slice-aggregate-put-line1
-    femtoseconds-requires
+    attoseconds-requires
     put-line1-requires
     slice-aggregate-put-line1-2
-    micrometres-requires
+    nanometres-requires
     cast-put-line1
     put-line1-requires-2
     slice-aggregate-put-line1-3

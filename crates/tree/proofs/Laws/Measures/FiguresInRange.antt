@@ -81,7 +81,7 @@ module _ (tie : TieRule) (N : Net) (R : InRange N) where
   unfolding planBy
   plan-within v h = settled-within N R (planParents tie N) legal v h
 
-  -- "L 0 to 1,000,000,000"
+  -- L is in its range
   pub wire-range : wireLength N (planBy tie N) ≤ wireLimit
   unfolding wireLength planBy
   wire-range =

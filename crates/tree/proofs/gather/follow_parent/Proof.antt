@@ -56,8 +56,8 @@ mul-levels c = search needs
 slice-write-levels : tie.Need-slice-write-levels
 slice-write-levels c = search needs
 
-femtoseconds-requires : tie.Need-femtoseconds-requires
-femtoseconds-requires c κs = search needs
+attoseconds-requires : tie.Need-attoseconds-requires
+attoseconds-requires c κs = search needs
 
 mul-t17 : tie.Need-mul-t17
 mul-t17 c = search needs
@@ -77,7 +77,7 @@ returns c =
     let deeper = getD (a .levels .now) (getD (a .parents .now) (a .u) 0) 0 + 1 in
     let lower = getD (a .slacks .now) (a .u) (pos 0) -ℤ a .branch .0 in
     let is : isBehind (a .parents .now) (a .levels .now) (a .u) ≡ true = lt-ltb (getD (a .levels .now) (a .u) 0) deeper (omega arith) in
-    let e = toZ-ofZ (fit (c .femtoseconds .result) (c .femtoseconds .ok)) ∙ c .femtoseconds .ensures ∙ c .before .minus .ensures ∙ ap (λ (z : ℤ). z -ℤ a .branch .0) (slack-read (c .before .before)) in (
+    let e = toZ-ofZ (fit (c .attoseconds .result) (c .attoseconds .ok)) ∙ c .attoseconds .ensures ∙ c .before .minus .ensures ∙ ap (λ (z : ℤ). z -ℤ a .branch .0) (slack-read (c .before .before)) in (
       sym (ap (λ (b : Bool). cond b (set (a .levels .now) (a .u) deeper) (a .levels .now)) is),
       (λ i. set (a .slacks .now) (a .u) (e i)) ∙ sym (ap (λ (b : Bool). cond b (set (a .slacks .now) (a .u) lower) (a .slacks .now)) is),
     )
@@ -109,7 +109,7 @@ follow-parent-spec =
     minus-requires
     mul-levels
     slice-write-levels
-    femtoseconds-requires
+    attoseconds-requires
     mul-t17
     slice-set-from-slacks
     same-length

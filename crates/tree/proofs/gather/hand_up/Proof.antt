@@ -58,8 +58,8 @@ mul-up c = let l = c .before .before .before .before .before .loop in omega (ari
 shared-slice-read-up : tie.Need-shared-slice-read-up Inv-loop μ-loop
 shared-slice-read-up c = let l = c .before .before .before .before .before .before .loop in omega (arith, c .before .before .before .before .before .before .before .before .pre .0 (l .at) (on-way (c .before .before .before .before .before)))
 
-femtoseconds-requires : tie.Need-femtoseconds-requires Inv-loop μ-loop
-femtoseconds-requires c κs = search needs
+attoseconds-requires : tie.Need-attoseconds-requires Inv-loop μ-loop
+attoseconds-requires c κs = search needs
 
 mul-t15 : tie.Need-mul-t15 Inv-loop μ-loop
 mul-t15 c = let l = c .before .before .before .before .before .before .before .loop in omega (arith, c .before .before .before .before .before .before .before .before .before .pre .0 (l .at) (on-way (c .before .before .before .before .before .before)))
@@ -77,7 +77,7 @@ loop-again : tie.Need-loop-again Inv-loop μ-loop
 loop-again c =
     let a = c .before .before .before .before .before .before .before .before .before .args in
     let l = c .before .before .before .before .before .before .before .loop in
-    let v = c .femtoseconds in
+    let v = c .attoseconds in
     let ps = a .parents .now in
     let next = way-next ps (l .more) (l .at) (omega arith) (l .inv .1) in
     let test : ltZ (a .least .0) (c .before .before .before .before .of .result .0) ≡ true = sym (c .before .before .before .is-less .ensures) ∙ c .before .before .if1 .taken in
@@ -126,7 +126,7 @@ hand-up-spec =
     is-less-requires
     mul-up
     shared-slice-read-up
-    femtoseconds-requires
+    attoseconds-requires
     mul-t15
     slice-set-from-slacks
     sub-more

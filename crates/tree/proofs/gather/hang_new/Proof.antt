@@ -65,8 +65,8 @@ minus-requires-2 c κs =
     let m : natAbs (a .branch .0 *ℤ pos level) ≤ termReach * factorReach = mul-le (a .branch .0) (pos level) termReach factorReach (omega (arith, whole, natAbs-is (a .branch .0))) (omega arith) in
     omega (arith, whole, own-read (c .before), c .times .ensures, natAbs-is (a .branch .0 *ℤ pos level))
 
-femtoseconds-requires : tie.Need-femtoseconds-requires
-femtoseconds-requires c κs = search needs
+attoseconds-requires : tie.Need-attoseconds-requires
+attoseconds-requires c κs = search needs
 
 mul-slacks : tie.Need-mul-slacks
 mul-slacks c = search needs
@@ -80,8 +80,8 @@ mul-levels-2 c = search needs
 slice-write-levels-2 : tie.Need-slice-write-levels-2
 slice-write-levels-2 c = search needs
 
-femtoseconds-requires-2 : tie.Need-femtoseconds-requires-2
-femtoseconds-requires-2 c κs = search needs
+attoseconds-requires-2 : tie.Need-attoseconds-requires-2
+attoseconds-requires-2 c κs = search needs
 
 mul-t13 : tie.Need-mul-t13
 mul-t13 c = search needs
@@ -98,8 +98,8 @@ same-length-2 c = search needs
 returns : tie.Need-returns
 returns c =
     let a = c .before .before .before .before .before .before .before .before .before .before .before .args in
-    let own = toZ-ofZ (fit (c .before .femtoseconds .result) (c .before .femtoseconds .ok)) ∙ c .before .femtoseconds .ensures ∙ c .before .before .minus2 .ensures ∙ ap₂ _-ℤ_ (own-read (c .before .before .before .before)) (c .before .before .before .times .ensures) in
-    let least = toZ-ofZ (fit (c .femtoseconds2 .result) (c .femtoseconds2 .ok)) ∙ c .femtoseconds2 .ensures ∙ c .before .before .before .before .before .before .minus .ensures ∙ ap (λ (z : ℤ). z -ℤ a .branch .0) (slack-read (c .before .before .before .before .before .before .before)) in
+    let own = toZ-ofZ (fit (c .before .attoseconds .result) (c .before .attoseconds .ok)) ∙ c .before .attoseconds .ensures ∙ c .before .before .minus2 .ensures ∙ ap₂ _-ℤ_ (own-read (c .before .before .before .before)) (c .before .before .before .times .ensures) in
+    let least = toZ-ofZ (fit (c .attoseconds2 .result) (c .attoseconds2 .ok)) ∙ c .attoseconds2 .ensures ∙ c .before .before .before .before .before .before .minus .ensures ∙ ap (λ (z : ℤ). z -ℤ a .branch .0) (slack-read (c .before .before .before .before .before .before .before)) in
     (refl, λ i. set (set (a .slacks .now) (a .s) (own i)) (a .b) (least i))
 
 pub hang-new-spec : {M : Type 1} → statement M
@@ -120,12 +120,12 @@ hang-new-spec =
     of-requires-2
     times-requires
     minus-requires-2
-    femtoseconds-requires
+    attoseconds-requires
     mul-slacks
     slice-set-from-slacks
     mul-levels-2
     slice-write-levels-2
-    femtoseconds-requires-2
+    attoseconds-requires-2
     mul-t13
     slice-set-from-slacks-2
     same-length

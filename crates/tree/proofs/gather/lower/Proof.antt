@@ -43,12 +43,12 @@ of-requires c κs = search needs
 slack-read : (c : tie.After-of) → c .of .result .0 ≡ getD (c .before .before .before .before .before .before .args .slacks .now) (c .before .before .before .before .before .before .args .v) (pos 0)
 slack-read c = let a = c .before .before .before .before .before .before .args in c .of .ensures ∙ toZ-ofZ (fit (getD (a .slacks .now) (a .v) (pos 0)) (c .before .of-arg .given))
 
-stored : (c : tie.After-femtoseconds) → rd (c .femtoseconds .result) ≡ getD (c .before .before .before .before .before .before .before .before .args .slacks .now) (c .before .before .before .before .before .before .before .before .args .v) (pos 0) -ℤ c .before .before .before .before .before .before .before .before .args .branch .0
-stored c = toZ-ofZ (fit (c .femtoseconds .result) (c .femtoseconds .ok)) ∙ c .femtoseconds .ensures ∙ c .before .minus .ensures ∙ ap (λ (z : ℤ). z -ℤ c .before .before .before .before .before .before .before .before .args .branch .0) (slack-read (c .before .before))
+stored : (c : tie.After-attoseconds) → rd (c .attoseconds .result) ≡ getD (c .before .before .before .before .before .before .before .before .args .slacks .now) (c .before .before .before .before .before .before .before .before .args .v) (pos 0) -ℤ c .before .before .before .before .before .before .before .before .args .branch .0
+stored c = toZ-ofZ (fit (c .attoseconds .result) (c .attoseconds .ok)) ∙ c .attoseconds .ensures ∙ c .before .minus .ensures ∙ ap (λ (z : ℤ). z -ℤ c .before .before .before .before .before .before .before .before .args .branch .0) (slack-read (c .before .before))
 
 -- v alone has gone down
-first : (c : tie.After-femtoseconds) (us : List ℕ) (j : ℕ) (D : ℕ → ℕ) → j < c .before .before .before .before .before .before .before .before .args .m → getD us j 0 ≡ c .before .before .before .before .before .before .before .before .args .v → DeepensUnder (c .before .before .before .before .before .before .before .before .args .parents .now) us (c .before .before .before .before .before .before .before .before .args .n) (c .before .before .before .before .before .before .before .before .args .m) j (c .before .before .before .before .before .before .before .before .args .levels .now) D
-    → Lowered us (c .before .before .before .before .before .before .before .before .args .m) D (c .before .before .before .before .before .before .before .before .args .branch .0) (c .before .before .before .before .before .before .before .before .args .levels .now) (c .before .before .before .before .before .before .before .before .args .slacks .now) j (set (c .before .before .before .before .before .before .before .before .args .levels .now) (c .before .before .before .before .before .before .before .before .args .v) (getD (c .before .before .before .before .before .before .before .before .args .levels .now) (c .before .before .before .before .before .before .before .before .args .v) 0 + 1)) (set (c .before .before .before .before .before .before .before .before .args .slacks .now) (c .before .before .before .before .before .before .before .before .args .v) (rd (c .femtoseconds .result)))
+first : (c : tie.After-attoseconds) (us : List ℕ) (j : ℕ) (D : ℕ → ℕ) → j < c .before .before .before .before .before .before .before .before .args .m → getD us j 0 ≡ c .before .before .before .before .before .before .before .before .args .v → DeepensUnder (c .before .before .before .before .before .before .before .before .args .parents .now) us (c .before .before .before .before .before .before .before .before .args .n) (c .before .before .before .before .before .before .before .before .args .m) j (c .before .before .before .before .before .before .before .before .args .levels .now) D
+    → Lowered us (c .before .before .before .before .before .before .before .before .args .m) D (c .before .before .before .before .before .before .before .before .args .branch .0) (c .before .before .before .before .before .before .before .before .args .levels .now) (c .before .before .before .before .before .before .before .before .args .slacks .now) j (set (c .before .before .before .before .before .before .before .before .args .levels .now) (c .before .before .before .before .before .before .before .before .args .v) (getD (c .before .before .before .before .before .before .before .before .args .levels .now) (c .before .before .before .before .before .before .before .before .args .v) 0 + 1)) (set (c .before .before .before .before .before .before .before .before .args .slacks .now) (c .before .before .before .before .before .before .before .before .args .v) (rd (c .attoseconds .result)))
 first c us j D jm e S =
     let a = c .before .before .before .before .before .before .before .before .args in
     let q = c .before .before .before .before .before .before .before .before .pre .0 in
@@ -66,8 +66,8 @@ minus-requires c κs =
     let w : Within timeReach (getD (a .slacks .now) (a .v) (pos 0)) = subst (λ (z : ℕ). Within timeReach (getD (a .slacks .now) z (pos 0))) (q .5) (q .8 (q .1) (q .4)) in
     omega (arith, whole, slack-read c, c .before .before .before .before .before .before .pre .1)
 
-femtoseconds-requires : tie.Need-femtoseconds-requires
-femtoseconds-requires c κs = search needs
+attoseconds-requires : tie.Need-attoseconds-requires
+attoseconds-requires c κs = search needs
 
 mul-t13 : tie.Need-mul-t13
 mul-t13 c = let q = c .before .before .before .before .before .before .before .before .pre .0 in omega (arith, q .9 (q .1) (q .4), q .5)
@@ -92,7 +92,7 @@ lower-below-requires c κs =
         first (c .before .before .before) (q .0) (q .1) (q .2) (q .4) (q .5) (q .6),
         (λ h l. q .7 h (omega (arith, q .4))),
         (λ h l. q .8 h (omega (arith, q .4))),
-        λ h l. let r = q .9 h l in omega (arith, r, length-set (a .levels .now) (a .v) (getD (a .levels .now) (a .v) 0 + 1), length-set (a .slacks .now) (a .v) (rd (c .before .before .before .femtoseconds .result))),
+        λ h l. let r = q .9 h l in omega (arith, r, length-set (a .levels .now) (a .v) (getD (a .levels .now) (a .v) 0 + 1), length-set (a .slacks .now) (a .v) (rd (c .before .before .before .attoseconds .result))),
       ),
       c .before .before .before .before .before .before .before .before .before .before .before .pre .1,
     )
@@ -101,7 +101,7 @@ same-length : tie.Need-same-length
 same-length c = let a = c .before .before .before .before .before .before .before .before .before .before .before .before .before .before .before .args in c .before .before .before .lower-below .kept .1 .1 .1 .1 .1 .0 ∙ length-set (a .levels .now) (a .v) (getD (a .levels .now) (a .v) 0 + 1)
 
 same-length-2 : tie.Need-same-length-2
-same-length-2 c = let a = c .before .before .before .before .before .before .before .before .before .before .before .before .before .before .before .args in c .before .before .before .lower-below .kept .1 .1 .1 .1 .1 .1 .0 ∙ length-set (a .slacks .now) (a .v) (rd (c .before .before .before .before .before .before .before .femtoseconds .result))
+same-length-2 c = let a = c .before .before .before .before .before .before .before .before .before .before .before .before .before .before .before .args in c .before .before .before .lower-below .kept .1 .1 .1 .1 .1 .1 .0 ∙ length-set (a .slacks .now) (a .v) (rd (c .before .before .before .before .before .before .before .attoseconds .result))
 
 returns : tie.Need-returns
 returns c = λ us j D C jm e S. c .before .before .before .lower-below .ensures us j D (c .before .before .before .before .before .before .before .before .before .before .before .before .before .before .before .args .levels .now) (c .before .before .before .before .before .before .before .before .before .before .before .before .before .before .before .args .slacks .now) C jm e (S .deepens) (first (c .before .before .before .before .before .before .before) us j D jm e S)
@@ -128,7 +128,7 @@ lower-spec =
     slice-copy-out-of
     of-requires
     minus-requires
-    femtoseconds-requires
+    attoseconds-requires
     mul-t13
     slice-set-from-slacks
     lower-below-requires

@@ -18,8 +18,8 @@ of-requires c κs = search needs
 least-requires : tie.Need-least-requires
 least-requires c κs = search needs
 
-femtoseconds-requires : tie.Need-femtoseconds-requires
-femtoseconds-requires c κs = search needs
+attoseconds-requires : tie.Need-attoseconds-requires
+attoseconds-requires c κs = search needs
 
 slice-set-from-slacks : tie.Need-slice-set-from-slacks
 slice-set-from-slacks c = search needs
@@ -30,7 +30,7 @@ same-length c = search needs
 returns : tie.Need-returns
 returns c =
     let a = c .before .before .before .before .args in
-    let e = toZ-ofZ (fit (c .femtoseconds .result) (c .femtoseconds .ok)) ∙ c .femtoseconds .ensures ∙ c .before .least .ensures
+    let e = toZ-ofZ (fit (c .attoseconds .result) (c .attoseconds .ok)) ∙ c .attoseconds .ensures ∙ c .before .least .ensures
     ∙ ap (λ (z : ℤ). minℤ z (a .least .0)) (c .before .before .of .ensures ∙ toZ-ofZ (fit (getD (a .slacks .now) 0 (pos 0)) (c .before .before .before .of-arg .given))) in
     λ i. set (a .slacks .now) 0 (e i)
 
@@ -41,7 +41,7 @@ worst-with-spec =
     slice-copy-out-of
     of-requires
     least-requires
-    femtoseconds-requires
+    attoseconds-requires
     slice-set-from-slacks
     same-length
     returns)

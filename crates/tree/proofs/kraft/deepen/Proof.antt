@@ -60,8 +60,8 @@ more : (c : tie.After-minus2)
     → c .minus2 .result .0 ≡ getD (c .before .before .before .before .before .before .before .before .args .own .now) (c .before .before .before .before .before .before .before .before .args .s) (pos 0) -ℤ getD (c .before .before .before .before .before .before .before .before .args .own .now) (c .before .before .before .before .before .before .before .before .args .v) (pos 0)
 more c = c .minus2 .ensures ∙ ap₂ _-ℤ_ (new-read (c .before .before .before)) (old-read (c .before))
 
-femtoseconds-requires : tie.Need-femtoseconds-requires
-femtoseconds-requires c κs = search needs
+attoseconds-requires : tie.Need-attoseconds-requires
+attoseconds-requires c κs = search needs
 
 mul-t9 : tie.Need-mul-t9
 mul-t9 c = search needs
@@ -83,8 +83,8 @@ plus-requires c κs =
       -is (getD (a .own .now) (a .s) (pos 0)) (getD (a .own .now) (a .v) (pos 0)),
     )
 
-femtoseconds-requires-2 : tie.Need-femtoseconds-requires-2
-femtoseconds-requires-2 c κs = search needs
+attoseconds-requires-2 : tie.Need-attoseconds-requires-2
+attoseconds-requires-2 c κs = search needs
 
 mul-t14 : tie.Need-mul-t14
 mul-t14 c = search needs
@@ -99,8 +99,8 @@ returns : tie.Need-returns
 returns c =
     let a = c .before .before .before .before .before .before .before .before .before .before .before .args in
     let low = lowered (c .before .before .before .before .before .before .before .before) in
-    let first = toZ-ofZ (fit (c .before .before .femtoseconds .result) (c .before .before .femtoseconds .ok)) ∙ c .before .before .femtoseconds .ensures ∙ low in
-    let second = toZ-ofZ (fit (c .femtoseconds2 .result) (c .femtoseconds2 .ok)) ∙ c .femtoseconds2 .ensures ∙ c .before .plus .ensures ∙ ap₂ _+ℤ_ (more (c .before .before .before)) low in
+    let first = toZ-ofZ (fit (c .before .before .attoseconds .result) (c .before .before .attoseconds .ok)) ∙ c .before .before .attoseconds .ensures ∙ low in
+    let second = toZ-ofZ (fit (c .attoseconds2 .result) (c .attoseconds2 .ok)) ∙ c .attoseconds2 .ensures ∙ c .before .plus .ensures ∙ ap₂ _+ℤ_ (more (c .before .before .before)) low in
     λ i. set (set (a .slacks .now) (a .v) (first i)) (a .s) (second i)
 
 pub deepen-spec : {M : Type 1} → statement M
@@ -118,11 +118,11 @@ deepen-spec =
     shared-slice-copy-out-of-2
     of-requires-3
     minus-requires-2
-    femtoseconds-requires
+    attoseconds-requires
     mul-t9
     slice-set-from-slacks
     plus-requires
-    femtoseconds-requires-2
+    attoseconds-requires-2
     mul-t14
     slice-set-from-slacks-2
     same-length

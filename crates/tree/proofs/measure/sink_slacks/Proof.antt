@@ -55,8 +55,8 @@ minus-requires c κs =
     let w = s .pre .2 (c .before .before .before .before .before .loop .s) (omega arith) (omega arith) in
     omega (arith, whole, arrival c, spent c)
 
-femtoseconds-requires : tie.Need-femtoseconds-requires Inv-loop μ-loop
-femtoseconds-requires c κs = search needs
+attoseconds-requires : tie.Need-attoseconds-requires Inv-loop μ-loop
+attoseconds-requires c κs = search needs
 
 mul-t16 : tie.Need-mul-t16 Inv-loop μ-loop
 mul-t16 c = search needs
@@ -71,9 +71,9 @@ loop-less : tie.Need-loop-less Inv-loop μ-loop
 loop-less c = search needs
 
 -- what is stored is the difference
-stored : (c : tie.After-femtoseconds Inv-loop μ-loop)
-    → rd (c .femtoseconds .result) ≡ slackAt (c .before .before .before .before .before .before .before .before .args .required .now) (c .before .before .before .before .before .before .before .loop .s) -ℤ slackAt (c .before .before .before .before .before .before .before .before .args .slacks .now) (c .before .before .before .before .before .before .before .loop .s)
-stored c = toZ-ofZ (fit (c .femtoseconds .result) (c .femtoseconds .ok)) ∙ c .femtoseconds .ensures ∙ c .before .minus .ensures ∙ ap₂ _-ℤ_ (arrival (c .before .before)) (spent (c .before .before))
+stored : (c : tie.After-attoseconds Inv-loop μ-loop)
+    → rd (c .attoseconds .result) ≡ slackAt (c .before .before .before .before .before .before .before .before .args .required .now) (c .before .before .before .before .before .before .before .loop .s) -ℤ slackAt (c .before .before .before .before .before .before .before .before .args .slacks .now) (c .before .before .before .before .before .before .before .loop .s)
+stored c = toZ-ofZ (fit (c .attoseconds .result) (c .attoseconds .ok)) ∙ c .attoseconds .ensures ∙ c .before .minus .ensures ∙ ap₂ _-ℤ_ (arrival (c .before .before)) (spent (c .before .before))
 
 loop-again : tie.Need-loop-again Inv-loop μ-loop
 loop-again c =
@@ -82,8 +82,8 @@ loop-again c =
       omega arith,
       omega arith,
       simp length-set (w .inv .2),
-      filled-more (pos 0) (λ k. slackAt (s .args .required .now) k -ℤ slackAt (s .args .slacks .now) k) 1 (w .slacks) (w .s) (rd (c .femtoseconds .result)) (omega arith) (stored c) (w .inv .3),
-      λ k a. getD-set-other (w .slacks) (w .s) k (rd (c .femtoseconds .result)) (pos 0) (omega arith) ∙ w .inv .4 k (omega arith),
+      filled-more (pos 0) (λ k. slackAt (s .args .required .now) k -ℤ slackAt (s .args .slacks .now) k) 1 (w .slacks) (w .s) (rd (c .attoseconds .result)) (omega arith) (stored c) (w .inv .3),
+      λ k a. getD-set-other (w .slacks) (w .s) k (rd (c .attoseconds .result)) (pos 0) (omega arith) ∙ w .inv .4 k (omega arith),
     )
 
 same-length : tie.Need-same-length Inv-loop μ-loop
@@ -107,7 +107,7 @@ sink-slacks-spec =
     slice-copy-out-of
     of-requires-2
     minus-requires
-    femtoseconds-requires
+    attoseconds-requires
     mul-t16
     slice-set-from-slacks
     add-s

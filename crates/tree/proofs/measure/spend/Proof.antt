@@ -51,8 +51,8 @@ spent-at-requires c κs =
       spent-within _ _ _ _ _ _ (s .pre .2) (w .i) (w .spent) (w .inv .2) i (s .pre .1) (s .pre .0),
     )
 
-femtoseconds-requires : tie.Need-femtoseconds-requires Inv-loop μ-loop
-femtoseconds-requires c κs = search needs
+attoseconds-requires : tie.Need-attoseconds-requires Inv-loop μ-loop
+attoseconds-requires c κs = search needs
 
 mul-t11 : tie.Need-mul-t11 Inv-loop μ-loop
 mul-t11 c =
@@ -76,7 +76,7 @@ loop-again c =
     let s = c .before .before .before .before .before .before .before .before in
     let w = c .before .before .before .before .before .loop in
     let i = c .before .before .before .before .loop-test .taken in
-    let z = toZ-ofZ (fit (c .femtoseconds .result) (c .femtoseconds .ok)) ∙ c .femtoseconds .ensures ∙ c .before .spent-at .ensures in (
+    let z = toZ-ofZ (fit (c .attoseconds .result) (c .attoseconds .ok)) ∙ c .attoseconds .ensures ∙ c .before .spent-at .ensures in (
       length-set (w .spent) _ _ ∙ w .inv .0,
       omega arith,
       spent-more _ _ _ _ _ _ (s .pre .2) (w .i) (w .spent) (w .inv .2) i _ (omega (arith, w .inv .0, length-set (s .args .spent .now) 0 (pos 0))) z,
@@ -105,7 +105,7 @@ spend-spec =
     mul-v
     shared-slice-read-v
     spent-at-requires
-    femtoseconds-requires
+    attoseconds-requires
     mul-t11
     slice-set-from-spent
     add-i

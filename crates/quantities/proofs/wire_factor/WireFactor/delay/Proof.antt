@@ -12,14 +12,14 @@ use borrow.Author.Needs.{needs}
 use Rattle.quantities.proofs.wire_factor.WireFactor.delay.Statement.{statement}
 use Rattle.quantities.proofs.wire_factor.WireFactor.delay.Tie as tie
 
-micrometres-requires : tie.Need-micrometres-requires
-micrometres-requires c κs = search needs
+nanometres-requires : tie.Need-nanometres-requires
+nanometres-requires c κs = search needs
 
 -- the product is the delay
-product-is : (c : tie.After-struct-known) → c .before .before .args .self .0 * c .before .micrometres .result ≡ lengthDelay (c .before .before .args .self) (c .before .before .args .length .0)
-product-is c = ap (λ (n : ℕ). c .before .before .args .self .0 * n) (c .before .micrometres .ensures)
+product-is : (c : tie.After-struct-known) → c .before .before .args .self .0 * c .before .nanometres .result ≡ lengthDelay (c .before .before .args .self) (c .before .before .args .length .0)
+product-is c = ap (λ (n : ℕ). c .before .before .args .self .0 * n) (c .before .nanometres .ensures)
 
-small : (c : tie.After-struct-known) → c .before .before .args .self .0 * c .before .micrometres .result ≤ factorReach * (2 * coordinateReach)
+small : (c : tie.After-struct-known) → c .before .before .args .self .0 * c .before .nanometres .result ≤ factorReach * (2 * coordinateReach)
 small c = let h = c .before .before .pre in omega (arith, product-is c, mul-le-mul {n₂ = factorReach} {m₂ = 2 * coordinateReach} (h .0) (h .1))
 
 mul-product : tie.Need-mul-product
@@ -35,4 +35,4 @@ returns : tie.Need-returns
 returns c = c .of .ensures ∙ toZ-ofZ (cast-of (c .before)) ∙ ap pos (product-is (c .before))
 
 pub delay-spec : {M : Type 1} → statement M
-delay-spec = tie.close (tie.spec micrometres-requires mul-product cast-of of-requires returns)
+delay-spec = tie.close (tie.spec nanometres-requires mul-product cast-of of-requires returns)
