@@ -1,0 +1,9 @@
+pub mod SinkLists
+pub mod Similar
+pub mod Alike
+pub mod SamePlan
+pub mod Times
+pub mod Written
+pub mod Judged
+pub mod NothingLost
+pub mod Marked

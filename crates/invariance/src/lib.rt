@@ -1,0 +1,1 @@
+// Theorems alone: what becomes of the first plan when the net changes.
