@@ -1,4 +1,4 @@
-/* Plans a net of three sinks, judges the plan, does the same where a micrometre
+/* Plans a net of three sinks, judges the plan, does the same where a nanometre
  * upward costs more than one across, then asks for too much, hands over one wire
  * factor for two, a pin too far from the root, and texts and an output of no
  * bytes.
@@ -138,7 +138,7 @@ int main(void) {
     const struct refusal one_factor = {REPEATER_TREE_MALFORMED, 1, 3};
     const struct refusal far_pin = {REPEATER_TREE_FAR_PIN, 1, 8};
     const char *too_much = NET("1"), *one = NET_WITH("2", "0", "10,10,70");
-    const char *far = NET_WITH("2,2", "0", "10,40000,70");
+    const char *far = NET_WITH("2,2", "0", "10,40000000,70");
     size_t bytes = 0;
     printf("version %d.%d.%d\n", REPEATER_TREE_VERSION_MAJOR,
            REPEATER_TREE_VERSION_MINOR, REPEATER_TREE_VERSION_PATCH);

@@ -1,11 +1,11 @@
 /* The repeater tree planner: two calls on text.
  *
  * docs/FORMAT.md has the two texts, their ranges and the rules of the plan.
- * Positions and lengths are in micrometres (um), times in femtoseconds (fs),
- * the two wire factors in fs per um. A distance is |dx| + |dy|. The net's line
- * wire=h,v gives a factor for each metal direction, 1 to 10,000: an edge
- * delays by h * |dx| + v * |dy|. Wire, nearness and the pin limit are plain
- * micrometres, and the listing's line wire=L has one number.
+ * Positions and lengths are in nanometres (nm), times in attoseconds (as),
+ * the two wire factors in as per nm, which is fs per um. A distance is
+ * |dx| + |dy|. The net's line wire=h,v gives a factor for each metal direction,
+ * 1 to 10,000: an edge delays by h * |dx| + v * |dy|. Wire, nearness and the
+ * pin limit are plain nanometres, and the listing's line wire=L has one number.
  *
  * What the caller owes:
  *   - the pointer to a text or an output is valid for its length; where the
@@ -30,16 +30,16 @@ extern "C" {
 /* While MAJOR is 0, another MINOR may change the texts, the answers or the
  * calls; another PATCH changes none of them. */
 #define REPEATER_TREE_VERSION_MAJOR 0
-#define REPEATER_TREE_VERSION_MINOR 5
+#define REPEATER_TREE_VERSION_MINOR 6
 #define REPEATER_TREE_VERSION_PATCH 0
 
 /* The longest texts that are read, in bytes. No listing that a plan writes
  * is longer than the second, so an output of that length is always enough. */
-#define REPEATER_TREE_NET_LENGTH 20480
-#define REPEATER_TREE_LISTING_LENGTH 24576
+#define REPEATER_TREE_NET_LENGTH 32768
+#define REPEATER_TREE_LISTING_LENGTH 32768
 
-/* The farthest that a sink may stand from the root, |dx| + |dy|, in um. */
-#define REPEATER_TREE_PIN_LIMIT 40000
+/* The farthest that a sink may stand from the root, |dx| + |dy|, in nm. */
+#define REPEATER_TREE_PIN_LIMIT 40000000
 
 /* No call takes more of its thread's stack, in bytes. The caller's own frames,
  * and what the system keeps on a thread's stack, come on top. */
@@ -98,10 +98,10 @@ enum {
  *   out, out_length   where the listing goes; bytes beyond it keep their values
  *   text              the refusal's text, 0 to 1
  *   line              the refusal's line, 0 to 518
- *   slack             the plan's worst slack in fs, the largest of any legal
- *                     tree: -1,000,409,000,000 to 1,000,000,000,000
- *   wire              the plan's wire in um, 0 to 20,480,000
- *   bytes             the listing's length, 0 to 24,576
+ *   slack             the plan's worst slack in as, the largest of any legal
+ *                     tree: -1,000,409,000,000,000 to 1,000,000,000,000,000
+ *   wire              the plan's wire in nm, 0 to 20,480,000,000
+ *   bytes             the listing's length, 0 to 32,768
  *
  * Every figure is written by every call. At a refusal (1 to 6, 13) slack, wire
  * and bytes are 0 and no byte of out is changed. */
@@ -117,12 +117,12 @@ uint8_t repeater_tree_plan(const uint8_t *net, size_t net_length,
  *   listing, listing_length   the listing text
  *   text                      the refusal's text, 1 to 2 (0: not refused)
  *   line                      the refusal's line, 0 to 1,027
- *   slack                     the tree's worst slack in fs,
- *                             -3,048,511,000,000 to 1,000,000,000,000
- *   wire                      the tree's wire in um, 0 to 409,200,000
+ *   slack                     the tree's worst slack in as,
+ *                             -3,048,511,000,000,000 to 1,000,000,000,000,000
+ *   wire                      the tree's wire in nm, 0 to 409,200,000,000
  *   best                      the largest worst slack of any legal tree over
- *                             this net (its Kraft maximum) in fs,
- *                             -1,000,409,000,000 to 1,000,000,000,000
+ *                             this net (its Kraft maximum) in as,
+ *                             -1,000,409,000,000,000 to 1,000,000,000,000,000
  *
  * Every figure is written by every call. At a refusal (1 to 4, 7 to 13) slack,
  * wire and best are 0. The net is refused before the listing is looked at. */

@@ -81,7 +81,7 @@ static size_t used_by(void *(*run)(void *), size_t out_length) {
 /* Pins about the root, so that each takes part in the plan. */
 static void make_net(int sinks) {
     char *at = (char *)net;
-    at += sprintf(at, "root=0,0\nbranch=20\nwire=2,3\nneed=-2000000000000\nsinks=%d\n", sinks);
+    at += sprintf(at, "root=0,0\nbranch=20\nwire=2,3\nneed=-2000000000000000\nsinks=%d\n", sinks);
     for (int k = 1; k <= sinks; k++)
         at += sprintf(at, "sink=%d,%d,%d\n", k * 37 % 1000, -(k * 91 % 1000), k * 53 % 97);
     net_length = (size_t)(at - (char *)net);

@@ -1,12 +1,12 @@
 //! Safe calls of the repeater tree planner.
 //!
-//! Positions and lengths are in micrometres, times in femtoseconds;
+//! Positions and lengths are in nanometres, times in attoseconds;
 //! `docs/FORMAT.md` has the two texts. The net's line `wire=h,v` gives what a
-//! micrometre costs in each metal direction: an edge delays by
-//! h × |dx| + v × |dy|. Wire, nearness and the pin limit are plain micrometres.
+//! nanometre costs in each metal direction: an edge delays by
+//! h × |dx| + v × |dy|. Wire, nearness and the pin limit are plain nanometres.
 //!
 //! ```
-//! // 3 across at 2 and 4 upward at 5: 26 of the 32 femtoseconds.
+//! // 3 across at 2 and 4 upward at 5: 26 of the 32 attoseconds.
 //! let net = b"root=0,0\nbranch=20\nwire=2,5\nneed=0\nsinks=1\nsink=3,4,32\n";
 //! let mut out = [0; repeater_tree::LISTING_LENGTH];
 //! let plan = repeater_tree::plan(net, &mut out).unwrap();
@@ -23,13 +23,13 @@ pub use calls::{judge_figures, plan_figures, JudgeFigures, PlanFigures};
 pub use refusal::Refusal;
 
 /// The longest net text that is read, in bytes.
-pub const NET_LENGTH: usize = 20_480;
+pub const NET_LENGTH: usize = 32_768;
 /// The longest listing that is read, in bytes; enough for every plan.
-pub const LISTING_LENGTH: usize = 24_576;
+pub const LISTING_LENGTH: usize = 32_768;
 /// The farthest that a sink may stand from the root, |dx| + |dy|, in
-/// micrometres. A net with a farther one is refused by number 13, on the
+/// nanometres. A net with a farther one is refused by number 13, on the
 /// sink's line: it belongs to the global planner.
-pub const PIN_LIMIT: u64 = 40_000;
+pub const PIN_LIMIT: u64 = 40_000_000;
 /// No call takes more of its thread's stack, in bytes. The caller's own frames,
 /// and what the system keeps on a thread's stack, come on top.
 pub const STACK: usize = 81_920;
@@ -37,10 +37,10 @@ pub const STACK: usize = 81_920;
 /// A plan's figures. Its listing is the output's first `bytes` bytes.
 #[derive(Clone, Copy, Debug, PartialEq, Eq)]
 pub struct Plan {
-    /// Worst slack, in femtoseconds: the largest of any legal tree over the
-    /// net, -1,000,409,000,000 to 1,000,000,000,000.
+    /// Worst slack, in attoseconds: the largest of any legal tree over the
+    /// net, -1,000,409,000,000,000 to 1,000,000,000,000,000.
     pub slack: i64,
-    /// Wire, in micrometres, 0 to 20,480,000.
+    /// Wire, in nanometres, 0 to 20,480,000,000.
     pub wire: u64,
     /// Length of the listing, at most [`LISTING_LENGTH`].
     pub bytes: usize,
@@ -49,13 +49,14 @@ pub struct Plan {
 /// A judged listing's figures.
 #[derive(Clone, Copy, Debug, PartialEq, Eq)]
 pub struct Measures {
-    /// Worst slack of the listed tree, in femtoseconds, -3,048,511,000,000 to
-    /// 1,000,000,000,000.
+    /// Worst slack of the listed tree, in attoseconds, -3,048,511,000,000,000
+    /// to 1,000,000,000,000,000.
     pub slack: i64,
-    /// Wire of the listed tree, in micrometres, 0 to 409,200,000.
+    /// Wire of the listed tree, in nanometres, 0 to 409,200,000,000.
     pub wire: u64,
     /// The largest worst slack of any legal tree over the net (its Kraft
-    /// maximum), in femtoseconds, -1,000,409,000,000 to 1,000,000,000,000.
+    /// maximum), in attoseconds, -1,000,409,000,000,000 to
+    /// 1,000,000,000,000,000.
     pub best: i64,
 }
 

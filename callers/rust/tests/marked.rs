@@ -38,6 +38,21 @@ fn plans_and_judges() {
     );
 }
 
+/// Every length and time of net A 1,000 times as large: the same parents.
+#[test]
+fn plans_alike_in_another_unit() {
+    let net = b"root=0,0\nbranch=20000\nwire=2,2\nneed=0\nsinks=3\n\
+sink=10000,0,100000\nsink=4000,6000,60000\nsink=10000,10000,70000\n";
+    let listing = b"slack=0\nwire=32000\nsinks=3\nleaf=1,5\nleaf=2,5\nleaf=3,4\n\
+node=4,0,4000,0\nnode=5,4,4000,0\n";
+    let mut out = [7; 200];
+    let plan = plan(net, &mut out).unwrap();
+    assert_eq!((plan.slack, plan.wire), (0, 32_000));
+    assert_eq!(&out[..plan.bytes], listing);
+    let measures = judge(net, listing).unwrap();
+    assert_eq!((measures.wire, measures.best), (32_000, 0));
+}
+
 #[test]
 fn refuses_in_plain_words() {
     let refusal = plan(&net("1"), &mut [0; 200]).unwrap_err();
@@ -133,7 +148,7 @@ fn refuses_other_factors() {
 /// A net of one sink, so far from the root.
 fn pin_at(distance: u64) -> Vec<u8> {
     format!(
-        "root=0,0\nbranch=20\nwire=2,2\nneed=-2000000000000\nsinks=1\nsink=1,{},100\n",
+        "root=0,0\nbranch=20\nwire=2,2\nneed=-2000000000000000\nsinks=1\nsink=1,{},100\n",
         distance - 1
     )
     .into_bytes()

@@ -2,16 +2,19 @@
 
 use repeater_tree::{judge, plan, Measures, LISTING_LENGTH};
 
-const CORNER: i64 = -100_000;
-const OPPOSITE: i64 = 100_000;
+const CORNER: i64 = -100_000_000;
+const OPPOSITE: i64 = 100_000_000;
 
-/// Sinks at x,-100000 with the same required arrival; the root stands in that
+/// Sinks at x,-100000000 with the same required arrival; the root stands in that
 /// corner, and branch points and wire cost as much as they may.
 fn net(sinks: usize, x: i64, required: i64) -> Vec<u8> {
     let sink = format!("sink={x},{CORNER},{required}\n");
-    let head =
-        format!("root={CORNER},{CORNER}\nbranch=1000000\nwire=10000,10000\nneed=-2000000000000\n");
-    format!("{head}sinks={sinks}\n{}", sink.repeat(sinks)).into_bytes()
+    let head = format!("root={CORNER},{CORNER}\nbranch=1000000000\nwire=10000,10000\n");
+    format!(
+        "{head}need=-2000000000000000\nsinks={sinks}\n{}",
+        sink.repeat(sinks)
+    )
+    .into_bytes()
 }
 
 fn planned(net: &[u8]) -> Measures {
@@ -23,11 +26,11 @@ fn planned(net: &[u8]) -> Measures {
 #[test]
 fn the_best_slack() {
     assert_eq!(
-        planned(&net(1, CORNER, 1_000_000_000_000)).best,
-        1_000_000_000_000
+        planned(&net(1, CORNER, 1_000_000_000_000_000)).best,
+        1_000_000_000_000_000
     );
-    let lowest = planned(&net(512, CORNER + 40_000, -1_000_000_000_000));
-    assert_eq!(lowest.best, -1_000_409_000_000);
+    let lowest = planned(&net(512, CORNER + 40_000_000, -1_000_000_000_000_000));
+    assert_eq!(lowest.best, -1_000_409_000_000_000);
     assert_eq!(lowest.slack, lowest.best);
 }
 
@@ -59,14 +62,17 @@ fn edges_above(parents: &[usize], k: usize) -> usize {
 /// on a branch point in their own corner.
 #[test]
 fn the_lowest_slack() {
-    let net = net(512, CORNER, -1_000_000_000_000);
+    let net = net(512, CORNER, -1_000_000_000_000_000);
     let mut parents: Vec<usize> = (513..=1023).collect();
     parents.push(1023);
     parents.push(0);
     parents.extend(513..1023);
-    let wire = 400_000 * (511 + 257);
-    let measures = judge(&net, &listing(-3_048_511_000_000, wire, &parents)).unwrap();
-    assert_eq!((measures.slack, measures.wire), (-3_048_511_000_000, wire));
+    let wire = 400_000_000 * (511 + 257);
+    let measures = judge(&net, &listing(-3_048_511_000_000_000, wire, &parents)).unwrap();
+    assert_eq!(
+        (measures.slack, measures.wire),
+        (-3_048_511_000_000_000, wire)
+    );
 }
 
 /// In a tree of nine full levels all sinks end at even numbers of edges, so
@@ -77,7 +83,7 @@ fn the_longest_wire() {
     let mut parents: Vec<usize> = (0..512).map(|k| 768 + k / 2).collect();
     parents.push(0);
     parents.extend((2..512).map(|k| 512 + k / 2));
-    let slack = -10_000 * 400_000 * 10 - 9 * 1_000_000;
-    let measures = judge(&net, &listing(slack, 409_200_000, &parents)).unwrap();
-    assert_eq!(measures.wire, 409_200_000);
+    let slack = -10_000 * 400_000_000 * 10 - 9 * 1_000_000_000;
+    let measures = judge(&net, &listing(slack, 409_200_000_000, &parents)).unwrap();
+    assert_eq!(measures.wire, 409_200_000_000);
 }

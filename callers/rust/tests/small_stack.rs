@@ -9,7 +9,8 @@ const BESIDE: usize = 8 * 1024;
 
 /// Pins about the root, so that each takes part in the plan.
 fn net(sinks: usize) -> Vec<u8> {
-    let mut text = format!("root=0,0\nbranch=20\nwire=2,3\nneed=-2000000000000\nsinks={sinks}\n");
+    let mut text =
+        format!("root=0,0\nbranch=20\nwire=2,3\nneed=-2000000000000000\nsinks={sinks}\n");
     for k in 1..=sinks {
         text += &format!("sink={},{},{}\n", k * 37 % 1000, k * 91 % 1000, k * 53 % 97);
     }
