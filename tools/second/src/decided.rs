@@ -60,6 +60,7 @@ mod tests {
     use super::*;
     use crate::metals;
     use crate::random::Random;
+    use crate::ranges::NANOMETRES;
 
     /// Weighed nearness gives another tree on most nets of many ties, and so
     /// does one factor for both directions.
@@ -68,7 +69,7 @@ mod tests {
         let mut r = Random::new(6);
         let mut decided = Decided::default();
         for _ in 0..200 {
-            let net = metals::spread_out(&mut r, 12);
+            let net = metals::spread_out(&mut r, &NANOMETRES, 12);
             decided.count(&net, &gathered::planned(&net), true);
         }
         assert_eq!(decided.tried, 200);

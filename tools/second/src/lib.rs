@@ -13,6 +13,8 @@ pub mod planners;
 pub mod printed;
 pub mod programs;
 pub mod random;
+pub mod ranges;
+pub mod scaled;
 pub mod session;
 pub mod shapes;
 pub mod signatures;

@@ -5,37 +5,39 @@ use crate::metals;
 use crate::near;
 use crate::pins::{self, point};
 use crate::random::Random;
-use second_reference::net::{
-    Factors, Net, Sink, ARRIVAL, BRANCH, COORDINATE, NEED, PIN_LIMIT, SINKS, WIRE,
-};
+use crate::ranges::{self, Ranges};
+use second_reference::net::{Factors, Net, Sink, SINKS, WIRE};
 use second_reference::tree::Point;
 
-/// A need that every net reaches.
-pub const LOW_NEED: i64 = NEED.0;
-
 /// A net as chips have them: pins within a few millimetres, times to match.
-pub fn common(r: &mut Random, n: usize) -> Net {
-    let reach = r.pick(&[100, 4_000, 20_000, PIN_LIMIT]);
+pub fn common(r: &mut Random, ranges: &Ranges, n: usize) -> Net {
+    let micrometre = ranges.micrometre;
+    let reach = r.pick(&[
+        100,
+        4_000 * micrometre,
+        20_000 * micrometre,
+        ranges.pin_limit,
+    ]);
     let wire = r.between(1, 400);
     let late = reach * wire;
-    let root = pins::root(r, reach);
+    let root = pins::root(r, ranges, reach);
     let sinks = (0..n)
         .map(|_| Sink {
-            at: pins::about(r, root, reach),
+            at: pins::about(r, ranges, root, reach),
             arrival: r.between(-late, 3 * late),
         })
         .collect();
     Net {
         root,
-        branch: r.between(1, 50_000),
+        branch: r.between(1, 50_000 * micrometre),
         wire: Factors::equal(wire),
-        need: LOW_NEED,
+        need: ranges.low_need,
         sinks,
     }
 }
 
 /// Few different own slacks, from different points and arrivals.
-pub fn tied(r: &mut Random, n: usize) -> Net {
+pub fn tied(r: &mut Random, ranges: &Ranges, n: usize) -> Net {
     let spread = r.between(0, 3);
     let wire = r.between(1, 2);
     let root = point(r, 2);
@@ -44,11 +46,17 @@ pub fn tied(r: &mut Random, n: usize) -> Net {
     let sinks = (0..n)
         .map(|_| (point(r, spread), branch * r.between(0, kinds)))
         .collect();
-    of_slacks(root, branch, Factors::equal(wire), sinks)
+    of_slacks(ranges, root, branch, Factors::equal(wire), sinks)
 }
 
 /// A net of these points and own slacks.
-pub fn of_slacks(root: Point, branch: i64, wire: Factors, sinks: Vec<(Point, i64)>) -> Net {
+pub fn of_slacks(
+    ranges: &Ranges,
+    root: Point,
+    branch: i64,
+    wire: Factors,
+    sinks: Vec<(Point, i64)>,
+) -> Net {
     let sinks = sinks
         .into_iter()
         .map(|(at, own)| Sink {
@@ -60,16 +68,16 @@ pub fn of_slacks(root: Point, branch: i64, wire: Factors, sinks: Vec<(Point, i64
         root,
         branch,
         wire,
-        need: LOW_NEED,
+        need: ranges.low_need,
         sinks,
     }
 }
 
 /// Pins on a few spots, the root's own among them.
-pub fn coincident(r: &mut Random, n: usize) -> Net {
-    let mut net = common(r, n);
-    let near = pins::about(r, net.root, 9);
-    let far = pins::about(r, net.root, PIN_LIMIT);
+pub fn coincident(r: &mut Random, ranges: &Ranges, n: usize) -> Net {
+    let mut net = common(r, ranges, n);
+    let near = pins::about(r, ranges, net.root, 9);
+    let far = pins::about(r, ranges, net.root, ranges.pin_limit);
     let same_time = r.once_in(2);
     for sink in &mut net.sinks {
         sink.at = r.pick(&[net.root, near, far]);
@@ -81,50 +89,48 @@ pub fn coincident(r: &mut Random, n: usize) -> Net {
 }
 
 /// All pins in one corner of the range.
-pub fn cornered(r: &mut Random, n: usize) -> Net {
-    let mut net = common(r, n);
-    let ends = [-COORDINATE, COORDINATE];
+pub fn cornered(r: &mut Random, ranges: &Ranges, n: usize) -> Net {
+    let mut net = common(r, ranges, n);
+    let ends = [-ranges.coordinate, ranges.coordinate];
     let corner = Point::new(r.pick(&ends), r.pick(&ends));
-    net.root = pins::about(r, corner, 100);
+    net.root = pins::about(r, ranges, corner, 100);
     for sink in &mut net.sinks {
-        sink.at = pins::about(r, net.root, 100);
+        sink.at = pins::about(r, ranges, net.root, 100);
     }
     net
 }
 
 /// Each number at an end of its range, next to it, or anywhere in it.
-pub fn extreme(r: &mut Random, n: usize) -> Net {
-    let root = Point::new(
-        end(r, -COORDINATE, COORDINATE),
-        end(r, -COORDINATE, COORDINATE),
-    );
-    let branch = end(r, BRANCH.0, BRANCH.1);
+pub fn extreme(r: &mut Random, ranges: &Ranges, n: usize) -> Net {
+    let last = ranges.coordinate;
+    let root = Point::new(end(r, -last, last), end(r, -last, last));
+    let branch = end(r, ranges.branch.0, ranges.branch.1);
     let wire = end(r, WIRE.0, WIRE.1);
-    let sinks = (0..n).map(|_| extreme_sink(r, root)).collect();
+    let sinks = (0..n).map(|_| extreme_sink(r, ranges, root)).collect();
     Net {
         root,
         branch,
         wire: Factors::equal(wire),
-        need: LOW_NEED,
+        need: ranges.low_need,
         sinks,
     }
 }
 
 /// What x leaves of the limit, y may use.
-fn extreme_sink(r: &mut Random, root: Point) -> Sink {
-    let reach = end(r, 0, PIN_LIMIT);
-    let x = end_about(r, root.x as i64, reach);
-    let left = PIN_LIMIT - (x - root.x as i64).abs();
-    let y = end_about(r, root.y as i64, left);
+fn extreme_sink(r: &mut Random, ranges: &Ranges, root: Point) -> Sink {
+    let reach = end(r, 0, ranges.pin_limit);
+    let x = end_about(r, ranges, root.x as i64, reach);
+    let left = ranges.pin_limit - (x - root.x as i64).abs();
+    let y = end_about(r, ranges, root.y as i64, left);
     Sink {
         at: Point::new(x, y),
-        arrival: end(r, ARRIVAL.0, ARRIVAL.1),
+        arrival: end(r, ranges.arrival.0, ranges.arrival.1),
     }
 }
 
-fn end_about(r: &mut Random, from: i64, reach: i64) -> i64 {
+fn end_about(r: &mut Random, ranges: &Ranges, from: i64, reach: i64) -> i64 {
     let (low, high) = (from - reach, from + reach);
-    end(r, low.max(-COORDINATE), high.min(COORDINATE))
+    end(r, low.max(-ranges.coordinate), high.min(ranges.coordinate))
 }
 
 fn end(r: &mut Random, low: i64, high: i64) -> i64 {
@@ -138,60 +144,60 @@ fn end(r: &mut Random, low: i64, high: i64) -> i64 {
 }
 
 /// The longest text: every number in its longest spelling.
-pub fn longest() -> Net {
-    let corner = Point::new(-COORDINATE, -COORDINATE);
+pub fn longest(ranges: &Ranges) -> Net {
+    let corner = Point::new(-ranges.coordinate, -ranges.coordinate);
     let sink = Sink {
         at: corner,
-        arrival: ARRIVAL.0,
+        arrival: ranges.arrival.0,
     };
     Net {
         root: corner,
-        branch: BRANCH.1,
+        branch: ranges.branch.1,
         wire: Factors::equal(WIRE.1),
-        need: NEED.0,
+        need: ranges.low_need,
         sinks: vec![sink; SINKS.1 as usize],
     }
 }
 
 /// Plans that are one long path, in either of two ways.
-pub fn path_like(r: &mut Random, n: usize) -> Net {
+pub fn path_like(r: &mut Random, ranges: &Ranges, n: usize) -> Net {
     if r.once_in(2) {
-        rising(r, n)
+        rising(r, ranges, n)
     } else {
-        near::deep(r, n)
+        near::deep(r, ranges, n)
     }
 }
 
 /// Own slacks rising by exactly c, so that each sink splits the one before.
-pub fn rising(r: &mut Random, n: usize) -> Net {
+pub fn rising(r: &mut Random, ranges: &Ranges, n: usize) -> Net {
     let mut rank: Vec<i64> = (0..n as i64).collect();
     if r.once_in(2) {
         shuffle(r, &mut rank);
     }
-    let branch = r.between(1, 1000);
+    let branch = r.between(1, 1000 * ranges.micrometre);
     let own = rank.iter().map(|i| i * branch).collect();
-    with_own_slacks(r, branch, own)
+    with_own_slacks(r, ranges, branch, own)
 }
 
 /// One urgent sink, the others with time to spare: nearly all edges tie.
-pub fn spare(r: &mut Random, n: usize) -> Net {
-    let branch = r.between(1, 1000);
+pub fn spare(r: &mut Random, ranges: &Ranges, n: usize) -> Net {
+    let branch = r.between(1, 1000 * ranges.micrometre);
     let mut own = vec![branch * (n as i64 + 2); n];
     own[n - 1] = 0;
     own[0] = branch * (n as i64 + 1);
-    with_own_slacks(r, branch, own)
+    with_own_slacks(r, ranges, branch, own)
 }
 
 /// Own slacks that fall as the numbers rise, all within one branch cost: the
 /// order turns the sinks round, and few edges keep the worst slack.
-pub fn falling(r: &mut Random, n: usize) -> Net {
+pub fn falling(r: &mut Random, ranges: &Ranges, n: usize) -> Net {
     let branch = r.between(n as i64, 100 * n as i64);
     let own = (0..n as i64).rev().collect();
-    with_own_slacks(r, branch, own)
+    with_own_slacks(r, ranges, branch, own)
 }
 
-fn with_own_slacks(r: &mut Random, branch: i64, own: Vec<i64>) -> Net {
-    let mut net = common(r, own.len());
+fn with_own_slacks(r: &mut Random, ranges: &Ranges, branch: i64, own: Vec<i64>) -> Net {
+    let mut net = common(r, ranges, own.len());
     net.branch = branch;
     for (sink, own) in net.sinks.iter_mut().zip(own) {
         sink.arrival = own + net.wire.delay(net.root, sink.at) as i64;
@@ -207,19 +213,20 @@ pub fn shuffle<T>(r: &mut Random, list: &mut [T]) {
 
 /// Any of these, mostly with factors that differ.
 pub fn any(r: &mut Random, n: usize) -> Net {
-    let net = even(r, n);
-    metals::any(r, net)
+    let ranges = ranges::any(r);
+    let net = even(r, ranges, n);
+    metals::any(r, ranges, net)
 }
 
-fn even(r: &mut Random, n: usize) -> Net {
+fn even(r: &mut Random, ranges: &Ranges, n: usize) -> Net {
     match r.index(8) {
-        0 => common(r, n),
-        1 => tied(r, n),
-        2 => coincident(r, n),
-        3 => extreme(r, n),
-        4 => path_like(r, n),
-        5 => cornered(r, n),
-        _ => near::any(r, n),
+        0 => common(r, ranges, n),
+        1 => tied(r, ranges, n),
+        2 => coincident(r, ranges, n),
+        3 => extreme(r, ranges, n),
+        4 => path_like(r, ranges, n),
+        5 => cornered(r, ranges, n),
+        _ => near::any(r, ranges, n),
     }
 }
 

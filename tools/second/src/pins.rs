@@ -2,6 +2,7 @@
 //! reach of the root or at a chosen distance from it.
 
 use crate::random::Random;
+use crate::ranges::{Ranges, NANOMETRES};
 use second_reference::net::{COORDINATE, PIN_LIMIT};
 use second_reference::tree::Point;
 
@@ -11,19 +12,19 @@ pub fn point(r: &mut Random, spread: i64) -> Point {
 }
 
 /// About the origin or anywhere in the range.
-pub fn root(r: &mut Random, spread: i64) -> Point {
-    let spread = r.pick(&[spread, COORDINATE]);
+pub fn root(r: &mut Random, ranges: &Ranges, spread: i64) -> Point {
+    let spread = r.pick(&[spread, ranges.coordinate]);
     point(r, spread)
 }
 
 /// At most so far from the root, at times just so far.
-pub fn about(r: &mut Random, root: Point, reach: i64) -> Point {
+pub fn about(r: &mut Random, ranges: &Ranges, root: Point, reach: i64) -> Point {
     if r.once_in(16) {
-        return at_distance(r, root, reach);
+        return at_distance(r, ranges, root, reach);
     }
     // The points within reach fill a square that stands on its corner.
     let (u, v) = (r.between(-reach, reach), r.between(-reach, reach));
-    clipped(offset(root, (u + v) / 2, (u - v) / 2))
+    clipped(ranges, offset(root, (u + v) / 2, (u - v) / 2))
 }
 
 /// x,y from the root.
@@ -32,8 +33,8 @@ pub fn offset(root: Point, x: i64, y: i64) -> Point {
 }
 
 /// The nearest point of the range, so no farther from any root in it.
-fn clipped(at: Point) -> Point {
-    let end = COORDINATE as i128;
+fn clipped(ranges: &Ranges, at: Point) -> Point {
+    let end = ranges.coordinate as i128;
     Point {
         x: at.x.clamp(-end, end),
         y: at.y.clamp(-end, end),
@@ -41,12 +42,13 @@ fn clipped(at: Point) -> Point {
 }
 
 pub fn in_range(at: Point) -> bool {
-    clipped(at) == at
+    clipped(&NANOMETRES, at) == at
 }
 
 /// Just so far from the root, by x or y alone or by both. Every distance up to
 /// the range's width has room.
-pub fn at_distance(r: &mut Random, root: Point, distance: i64) -> Point {
+pub fn at_distance(r: &mut Random, ranges: &Ranges, root: Point, distance: i64) -> Point {
+    let room = |from: i128| room(ranges, from);
     let least = (distance - room(root.y)).max(0);
     let most = distance.min(room(root.x));
     let x = match r.index(4) {
@@ -54,26 +56,27 @@ pub fn at_distance(r: &mut Random, root: Point, distance: i64) -> Point {
         1 => most,
         _ => r.between(least, most),
     };
-    Point::new(moved(r, root.x, x), moved(r, root.y, distance - x))
+    let mut moved = |from: i128, by: i64| moved(r, ranges, from, by);
+    Point::new(moved(root.x, x), moved(root.y, distance - x))
 }
 
 /// How far the farther end of the range is.
-fn room(from: i128) -> i64 {
-    COORDINATE + from.abs() as i64
+fn room(ranges: &Ranges, from: i128) -> i64 {
+    ranges.coordinate + from.abs() as i64
 }
 
 /// By so much in a direction that does not leave the range.
-fn moved(r: &mut Random, from: i128, by: i64) -> i64 {
+fn moved(r: &mut Random, ranges: &Ranges, from: i128, by: i64) -> i64 {
     let mut ends = vec![from as i64 - by, from as i64 + by];
-    ends.retain(|v| v.abs() <= COORDINATE);
+    ends.retain(|v| v.abs() <= ranges.coordinate);
     r.pick(&ends)
 }
 
-/// Too far from the root.
+/// Too far from the root for any net.
 pub fn beyond(r: &mut Random, root: Point) -> Point {
     let any = r.between(PIN_LIMIT + 1, 2 * COORDINATE);
     let distance = r.pick(&[PIN_LIMIT + 1, PIN_LIMIT + 2, any]);
-    at_distance(r, root, distance)
+    at_distance(r, &NANOMETRES, root, distance)
 }
 
 /// x,y and its three quarter turns about the origin.

@@ -112,7 +112,7 @@ fn texts(r: &mut Random, i: u64) -> (Vec<u8>, Vec<u8>) {
     let bytes = plain::plan(&good.text(), &mut out).last as usize;
     out.truncate(bytes);
     if i % 7 == 6 {
-        good.need = r.between(-1_000_000, 1_000_000);
+        good.need = r.between(-1_000_000_000, 1_000_000_000);
     }
     let net = good.text();
     match i % 5 {

@@ -15,7 +15,7 @@ use std::collections::BTreeMap;
 /// Past the output lent to the library; must stay as it was.
 const GUARD: usize = 64;
 /// Enough to see what is wrong without flooding the screen.
-const MOST_PRINTED: usize = 20;
+const MOST_PRINTED: u64 = 20;
 const LAST_NUMBER: u8 = 13;
 /// Gathering takes long on large nets: one case in so many has them.
 const LARGE_GATHERED: u64 = 8;
@@ -32,6 +32,7 @@ pub struct Counts {
     /// Nets on which the tool's own gathered numbers are held to their
     /// definitions.
     pub gathered: u64,
+    pub disagreements: u64,
 }
 
 impl Counts {
@@ -49,7 +50,19 @@ impl Counts {
         self.runs += other.runs;
         self.rivals += other.rivals;
         self.gathered += other.gathered;
+        self.disagreements += other.disagreements;
     }
+}
+
+/// Nets of which one is a multiple of the other.
+#[derive(Clone, Copy, Debug, Default)]
+pub struct Pairs {
+    /// Both planned.
+    pub planned: u64,
+    /// Both refused for their need.
+    pub refused: u64,
+    /// Listings over such nets, both judged.
+    pub judged: u64,
 }
 
 #[derive(Default)]
@@ -71,7 +84,7 @@ pub struct Session {
     pub gathered: Checked,
     /// Plans by what the two factors decide.
     pub metals: Decided,
-    pub disagreements: usize,
+    pub pairs: Pairs,
 }
 
 /// What a plan left in the output, beside its figures.
@@ -239,8 +252,8 @@ impl Session {
     }
 
     pub fn disagree(&mut self, what: &str, texts: &[(&str, &[u8])]) {
-        self.disagreements += 1;
-        if self.disagreements > MOST_PRINTED {
+        self.count().disagreements += 1;
+        if self.total().disagreements > MOST_PRINTED {
             return;
         }
         println!("DISAGREEMENT --replay {}:{}\n{what}", self.kind, self.seed);

@@ -3,9 +3,10 @@
 use crate::near;
 use crate::nets;
 use crate::random::Random;
+use crate::ranges::Ranges;
 use second_reference::net::Net;
 
-pub type Make = fn(&mut Random, usize) -> Net;
+pub type Make = fn(&mut Random, &Ranges, usize) -> Net;
 
 pub const SHAPES: [(&str, Make); 16] = [
     ("common", nets::common),
@@ -74,3 +75,9 @@ pub const MARKED: [(&str, &[u8]); 7] = [
         b"root=60000,0\nbranch=20\nwire=2,2\nneed=-80000\nsinks=1\nsink=100000,0,0\n",
     ),
 ];
+
+/// Request 5: the end of the range in nanometres.
+pub const RANGE_END: [(&str, &[u8]); 1] = [(
+    "marked-range-end-nm-1",
+    b"root=60000000,0\nbranch=20\nwire=2,2\nneed=-80000000\nsinks=1\nsink=100000000,0,0\n",
+)];

@@ -3,6 +3,7 @@
 use crate::nets::shuffle;
 use crate::pins;
 use crate::random::Random;
+use crate::ranges::Ranges;
 use second_reference::net::Net;
 use second_reference::tree::{Point, Tree};
 
@@ -40,10 +41,10 @@ pub fn path_parents(n: usize) -> Vec<usize> {
     [0].into_iter().chain(sinks).chain(branch_points).collect()
 }
 
-/// The tree of these parents over the net, branch points in the range and at
+/// The tree of these parents over the net, branch points in the ranges and at
 /// most so far from the root.
-pub fn placed(r: &mut Random, net: &Net, parent: Vec<usize>, reach: i64) -> Tree {
-    over(net, parent, || pins::about(r, net.root, reach))
+pub fn placed(r: &mut Random, ranges: &Ranges, net: &Net, parent: Vec<usize>, reach: i64) -> Tree {
+    over(net, parent, || pins::about(r, ranges, net.root, reach))
 }
 
 /// Branch points beyond the range too.

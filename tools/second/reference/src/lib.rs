@@ -25,3 +25,5 @@ mod marked_tests;
 mod metal_tests;
 #[cfg(test)]
 mod random_tests;
+#[cfg(test)]
+mod range_tests;

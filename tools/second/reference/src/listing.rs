@@ -5,9 +5,9 @@ use crate::net::{Net, COORDINATE, SINKS};
 use crate::spelling::Lines;
 use crate::tree::{Point, Tree};
 
-pub const LENGTH: usize = 24_576;
-pub const SLACK: (i64, i64) = (-4_000_000_000_000, 4_000_000_000_000);
-pub const WIRE: (i64, i64) = (0, 1_000_000_000);
+pub const LENGTH: usize = 32_768;
+pub const SLACK: (i64, i64) = (-4_000_000_000_000_000, 4_000_000_000_000_000);
+pub const WIRE: (i64, i64) = (0, 1_000_000_000_000);
 
 #[derive(Clone, Debug, PartialEq, Eq)]
 pub struct Listing {

@@ -67,7 +67,7 @@ fn nearness_stays_plain() {
 }
 
 /// Over a detour: sink 1 is reached by 10 across and 20 upward, sink 2 by 4 and
-/// 14. The wire is the edges' micrometres, 10 + 20 + 8.
+/// 14. The wire is the edges' nanometres, 10 + 20 + 8.
 #[test]
 fn path_slack_has_both_factors() {
     let net = "root=0,0\nbranch=20\nwire=2,6\nneed=0\nsinks=2\nsink=10,0,100\nsink=4,6,110\n";
@@ -83,7 +83,7 @@ fn path_slack_has_both_factors() {
 fn the_pin_limit_stays_plain() {
     for factors in ["1,10000", "10000,1", "1,1", "10000,10000"] {
         let wire = format!("wire={factors}\n");
-        for (sink, number) in [("39999,1", 0), ("1,39999", 0), ("1,40000", 13)] {
+        for (sink, number) in [("39999999,1", 0), ("1,39999999", 0), ("1,40000000", 13)] {
             let net = one("0,0", sink).replace("wire=2,2\n", &wire);
             assert_eq!(told(&net).0, number);
         }
@@ -100,7 +100,7 @@ fn line_3(spelt: &str) -> u8 {
 #[test]
 fn a_line_of_two_factors() {
     for spelt in ["1,1", "1,10000", "10000,1", "10000,10000"] {
-        let net = net(spelt).replace("need=0", "need=-2000000000000");
+        let net = net(spelt).replace("need=0", "need=-2000000000000000");
         assert_eq!(told(&net), (0, 0, 0));
     }
     let long = "9".repeat(9000);

@@ -4,15 +4,17 @@ use crate::answer::Refusal;
 use crate::spelling::Lines;
 use crate::tree::Point;
 
-pub const LENGTH: usize = 20_480;
-pub const COORDINATE: i64 = 100_000;
+/// 02, request 5: positions are in nanometres, times in attoseconds, and "Both
+/// texts may have 32,768 bytes".
+pub const LENGTH: usize = 32_768;
+pub const COORDINATE: i64 = 100_000_000;
 /// How far from the root a sink may be.
-pub const PIN_LIMIT: i64 = 40_000;
-pub const BRANCH: (i64, i64) = (1, 1_000_000);
+pub const PIN_LIMIT: i64 = 40_000_000;
+pub const BRANCH: (i64, i64) = (1, 1_000_000_000);
 pub const WIRE: (i64, i64) = (1, 10_000);
-pub const NEED: (i64, i64) = (-2_000_000_000_000, 2_000_000_000_000);
+pub const NEED: (i64, i64) = (-2_000_000_000_000_000, 2_000_000_000_000_000);
 pub const SINKS: (i64, i64) = (1, 512);
-pub const ARRIVAL: (i64, i64) = (-1_000_000_000_000, 1_000_000_000_000);
+pub const ARRIVAL: (i64, i64) = (-1_000_000_000_000_000, 1_000_000_000_000_000);
 
 #[derive(Clone, Copy, Debug, PartialEq, Eq)]
 pub struct Sink {
@@ -20,7 +22,7 @@ pub struct Sink {
     pub arrival: i64,
 }
 
-/// Femtoseconds that a micrometre costs, in each of the metal directions.
+/// Attoseconds that a nanometre costs, in each of the metal directions.
 #[derive(Clone, Copy, Debug, PartialEq, Eq)]
 pub struct Factors {
     /// h, along x.
@@ -135,9 +137,9 @@ fn read_factors(lines: &mut Lines) -> Result<Factors, Refusal> {
     Ok(Factors::new(horizontal, vertical))
 }
 
-/// 02, request 2: "A sink more than 40,000 micrometres from the root is
-/// refused in every call that reads a net." It is turned away by "13, text 1,
-/// the sink's line, right after 3 on that line".
+/// 02, request 2: a sink farther from the root than the limit "is refused in
+/// every call that reads a net", by "13, text 1, the sink's line, right after 3
+/// on that line". Request 5: "The pin limit of request 2 is 40,000,000".
 fn read_sink(lines: &mut Lines, root: Point) -> Result<Sink, Refusal> {
     let numbers = lines.due("sink=", 3)?;
     let x = lines.value(numbers[0], -COORDINATE, COORDINATE)?;

@@ -3,11 +3,11 @@
 
 use crate::answer::{Answer, Refusal};
 use crate::kraft;
-use crate::net::{Factors, Net, Sink};
+use crate::net::{Factors, Net, Sink, NEED};
 use crate::tree::Point;
 use crate::{gathered, plain, slow};
 
-struct Random(u64);
+pub(crate) struct Random(pub u64);
 
 impl Random {
     fn below(&mut self, limit: i64) -> i64 {
@@ -44,7 +44,7 @@ fn random_net(r: &mut Random, spread: i64, pin: impl Fn(&mut Random, Point) -> P
         root,
         branch: 1 + r.below(spread),
         wire: random_factors(r),
-        need: -2_000_000_000_000,
+        need: NEED.0,
         sinks,
     }
 }
@@ -55,14 +55,14 @@ fn near_pin(r: &mut Random, root: Point, reach: i64) -> Point {
     let rest = reach - x.abs();
     let y = r.below(2 * rest + 1) - rest;
     Point {
-        x: (root.x + x as i128).clamp(-100_000, 100_000),
-        y: (root.y + y as i128).clamp(-100_000, 100_000),
+        x: (root.x + x as i128).clamp(-100_000_000, 100_000_000),
+        y: (root.y + y as i128).clamp(-100_000_000, 100_000_000),
     }
 }
 
 /// From the root inward, up to one beyond the limit.
 fn pin_at_limit(r: &mut Random, root: Point) -> Point {
-    let distance = 39_994 + r.below(8);
+    let distance = 39_999_994 + r.below(8);
     let x = match r.below(4) {
         0 => 0,
         1 => distance,
@@ -104,9 +104,9 @@ fn check_plan(net: &Net) {
 }
 
 /// In turn from pins side by side to pins across the die.
-fn net_of_round(r: &mut Random, round: usize) -> Net {
-    let spread = [2, 6, 30, 1000, 99_000][round % 5];
-    let reach = 40_000.min(2 * spread);
+pub(crate) fn net_of_round(r: &mut Random, round: usize) -> Net {
+    let spread = [2, 6, 30, 1000, 99_000, 99_000_000][round % 6];
+    let reach = 40_000_000.min(2 * spread);
     random_net(r, spread, |r, root| near_pin(r, root, reach))
 }
 
@@ -155,7 +155,7 @@ fn a_mirrored_net_has_the_mirrored_plan() {
     }
 }
 
-/// A micrometre that costs h is h that cost 1, but for nearness and wire.
+/// A nanometre that costs h is h that cost 1, but for nearness and wire.
 #[test]
 fn own_slacks_are_those_of_stretched_nets() {
     let mut r = Random(7);
@@ -175,12 +175,12 @@ fn own_slacks_are_those_of_stretched_nets() {
 
 #[test]
 fn the_lowest_far_pin_is_told() {
-    let mut r = Random(40_000);
+    let mut r = Random(40_000_000);
     let mut refused = 0;
     for _ in 0..600 {
-        let net = random_net(&mut r, 99_000, pin_at_limit);
+        let net = random_net(&mut r, 99_000_000, pin_at_limit);
         let away = |s: &Sink| (s.at.x - net.root.x).abs() + (s.at.y - net.root.y).abs();
-        let Some(i) = net.sinks.iter().position(|s| away(s) > 40_000) else {
+        let Some(i) = net.sinks.iter().position(|s| away(s) > 40_000_000) else {
             check_plan(&net);
             continue;
         };
@@ -212,7 +212,7 @@ fn kraft_maximum_by_trying_every_value() {
 
 #[test]
 fn kraft_maximum_with_floors_that_no_power_can_hold() {
-    let far = 1_000_000_000_000;
+    let far = 1_000_000_000_000_000;
     assert_eq!(kraft::maximum_of(&[0, far], 1), -1);
     assert_eq!(kraft::maximum_of(&[0, 1, 2, 3, far], 1), -1);
     assert_eq!(kraft::maximum_of(&[0, 0, far], 1), -2);

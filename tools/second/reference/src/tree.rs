@@ -17,7 +17,7 @@ impl Point {
         }
     }
 
-    /// In plain micrometres: of wire, of nearness, of the pin limit.
+    /// In plain nanometres: of wire, of nearness, of the pin limit.
     pub fn distance(self, other: Point) -> i128 {
         (self.x - other.x).abs() + (self.y - other.y).abs()
     }

@@ -12,6 +12,7 @@ use repeater_tree::{judge_figures, plan_figures, JudgeFigures, PlanFigures, LIST
 use second_reference::net::Net;
 use second_reference::{plain, slow};
 use second_tool::random::Random;
+use second_tool::ranges::NANOMETRES;
 use second_tool::shapes::Make;
 use second_tool::timing::{compare, median};
 use second_tool::{metals, near, nets, trees};
@@ -102,7 +103,7 @@ fn one_path(net: &Net) -> Vec<u8> {
 
 fn cases(make: Make, n: usize, listing: fn(&Net) -> Vec<u8>) -> Vec<Case> {
     let mut r = Random::new(n as u64);
-    let nets = (0..NETS).map(|_| make(&mut r, n));
+    let nets = (0..NETS).map(|_| make(&mut r, &NANOMETRES, n));
     nets.map(|net| Case {
         listing: listing(&net),
         net: net.text(),
@@ -274,7 +275,7 @@ fn million() {
     let (mut library, mut plain) = (Vec::new(), Vec::new());
     for _ in 0..1_000_000 / CHUNK {
         let nets: Vec<Vec<u8>> = (0..CHUNK)
-            .map(|i| [nets::common, metals::common][i % 2](&mut r, 12).text())
+            .map(|i| [nets::common, metals::common][i % 2](&mut r, &NANOMETRES, 12).text())
             .collect();
         library.push(timed(&nets, &mut out, library_plan).as_secs_f64());
         plain.push(timed(&nets, &mut out, plain_plan).as_secs_f64());

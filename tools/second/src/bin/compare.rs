@@ -88,16 +88,17 @@ fn nothing_ran(s: &Session) -> bool {
 /// The last line says what was compared, each count of its own.
 fn print_counts(s: &Session) {
     println!(
-        "{:>16} {:>9} {:>9} {:>9} {:>9}",
-        "kind of case", "plans", "judged", "runs", "own"
+        "{:>16} {:>9} {:>9} {:>9} {:>9} {:>9}",
+        "kind of case", "plans", "judged", "runs", "own", "disagree"
     );
     for (kind, counts) in &s.counts {
         println!(
-            "{kind:>16} {:>9} {:>9} {:>9} {:>9}",
+            "{kind:>16} {:>9} {:>9} {:>9} {:>9} {:>9}",
             counts.plans,
             counts.judgements,
             counts.runs,
-            counts.own()
+            counts.own(),
+            counts.disagreements
         );
     }
     for (call, numbers) in ["plan", "judge"].iter().zip(&s.numbers) {
@@ -118,6 +119,10 @@ fn print_counts(s: &Session) {
          by either factor in both directions: {}",
         metals.differing, metals.tried, metals.nearness, metals.both
     );
+    println!(
+        "pairs of a net and a multiple of it: {} planned, {} refused for their need, {} judged",
+        s.pairs.planned, s.pairs.refused, s.pairs.judged
+    );
     let total = s.total();
     println!(
         "measured by the tool itself: {} rival trees against the library's best; on {} nets \
@@ -132,7 +137,7 @@ fn print_counts(s: &Session) {
         total.plans,
         total.judgements,
         total.runs,
-        s.disagreements
+        total.disagreements
     );
 }
 
@@ -155,7 +160,7 @@ fn main() -> ExitCode {
             eprintln!("compare: {error}");
             ExitCode::from(2)
         }
-        Ok(()) if nothing_ran(&s) || s.disagreements > 0 => ExitCode::from(1),
+        Ok(()) if nothing_ran(&s) || s.total().disagreements > 0 => ExitCode::from(1),
         Ok(()) => ExitCode::SUCCESS,
     }
 }

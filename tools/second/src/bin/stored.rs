@@ -72,8 +72,8 @@ fn main() -> ExitCode {
         None => "",
     };
     println!(
-        "stored nets: {} with {} sinks by library, plain, gathered{programs}, {} by slow too; {} differences",
-        report.nets, report.sinks, report.slow, report.faults.len()
+        "stored nets: {} with {} sinks by library, plain, gathered{programs}, {} by slow too; {} are multiples of others; {} differences",
+        report.nets, report.sinks, report.slow, report.images, report.faults.len()
     );
     match report.faults.len() {
         0 => ExitCode::SUCCESS,

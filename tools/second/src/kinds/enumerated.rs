@@ -2,6 +2,7 @@
 
 use crate::nets;
 use crate::random::Random;
+use crate::ranges::NANOMETRES;
 use crate::session::Session;
 use crate::trees;
 use repeater_tree::LISTING_LENGTH;
@@ -28,11 +29,11 @@ pub fn legal(s: &mut Session, r: &mut Random) {
         reached |= worst_slack(&net, &tree) == best as i128;
         rival(s, &net, &text, &tree, best);
         for reach in [5, COORDINATE] {
-            let tree = trees::placed(r, &net, parent.clone(), reach);
+            let tree = trees::placed(r, &NANOMETRES, &net, parent.clone(), reach);
             rival(s, &net, &text, &tree, best);
             accepted(s, &net, &text, tree);
         }
-        for spread in [1_000_000, 1_000_000_000_000_000] {
+        for spread in [1_000_000_000, 1_000_000_000_000_000_000] {
             let tree = trees::placed_beyond(r, &net, parent.clone(), spread);
             rival(s, &net, &text, &tree, best);
         }
@@ -83,7 +84,7 @@ pub fn parents(s: &mut Session, r: &mut Random) {
     let net = nets::any(r, n);
     let text = net.text();
     for parent in all {
-        let tree = trees::placed(r, &net, parent, 1000);
+        let tree = trees::placed(r, &NANOMETRES, &net, parent, 1000);
         let legal = fault(n, &tree.parent).is_none();
         let listing = stated(&net, tree, legal);
         let answer = s.judge(&text, &listing);

@@ -152,7 +152,7 @@ pub fn faults(s: &mut Session, r: &mut Random) {
             5 | 6 => k - 1,
             _ => line_of((k - 7) / 3),
         };
-        for (by, number) in [(&b"-0"[..], 2), (b"9999999999999", 3)] {
+        for (by, number) in [(&b"-0"[..], 2), (b"9999999999999999", 3)] {
             let other = damage::replaced(&text, at.clone(), by);
             if line <= far {
                 refused(s, r, &other, number, line);

@@ -3,20 +3,23 @@
 use crate::metals;
 use crate::nets;
 use crate::random::Random;
+use crate::ranges::{Ranges, NANOMETRES};
 use crate::session::Session;
 use crate::trees;
 use second_reference::listing::Listing;
-use second_reference::net::{Net, COORDINATE};
+use second_reference::net::Net;
 use second_reference::slow::listing_of;
 
-fn random_listing(r: &mut Random, net: &Net) -> Listing {
+/// Of any tree, branch points anywhere in these ranges or at their ends.
+pub fn random_listing(r: &mut Random, ranges: &Ranges, net: &Net) -> Listing {
     let parent = trees::random_parents(r, net.sinks.len());
-    let reach = r.pick(&[3, 5_000, COORDINATE]);
-    let mut tree = trees::placed(r, net, parent, reach);
+    let last = ranges.coordinate;
+    let reach = r.pick(&[3, 5_000 * ranges.micrometre, last]);
+    let mut tree = trees::placed(r, ranges, net, parent, reach);
     if r.once_in(3) {
         for at in &mut tree.point[net.sinks.len() + 1..] {
-            at.x = r.pick(&[-COORDINATE, COORDINATE]) as i128;
-            at.y = r.pick(&[-COORDINATE, COORDINATE]) as i128;
+            at.x = r.pick(&[-last, last]) as i128;
+            at.y = r.pick(&[-last, last]) as i128;
         }
     }
     listing_of(net, tree)
@@ -26,7 +29,7 @@ fn random_listing(r: &mut Random, net: &Net) -> Listing {
 fn judged(s: &mut Session, r: &mut Random, n: usize) {
     let net = nets::any(r, n);
     let text = net.text();
-    let listing = random_listing(r, &net);
+    let listing = random_listing(r, &NANOMETRES, &net);
     let off = r.pick(&[-1, 1]);
     for (slack, wire, number) in [(0, 0, 0), (off, 0, 11), (0, off, 12), (off, off, 11)] {
         let mut other = listing.clone();
@@ -51,7 +54,7 @@ pub fn full(s: &mut Session, r: &mut Random) {
     judged(s, r, 512);
     // The ends of a parent's range, and of the sinks within it.
     let net = nets::any(r, 512);
-    let listing = random_listing(r, &net);
+    let listing = random_listing(r, &NANOMETRES, &net);
     for parent in [0, 1, 512, 513, 1023, 1024] {
         let mut other = listing.clone();
         other.tree.parent[1 + r.index(1023)] = parent;
@@ -69,7 +72,7 @@ pub fn wrong_n(s: &mut Session, r: &mut Random) {
     };
     let net = metals::drawn(r, nets::common, n);
     let rival = metals::drawn(r, nets::common, other);
-    let bytes = random_listing(r, &rival).text();
+    let bytes = random_listing(r, &NANOMETRES, &rival).text();
     let answer = s.judge(&net.text(), &bytes);
     let right = (answer.number == 7) == (n != other);
     s.expect(
@@ -87,7 +90,7 @@ pub fn rings(s: &mut Session, r: &mut Random) {
     let n = r.pick(&[2, 3, 4, 6, 10, 40, 130]);
     let net = metals::drawn(r, nets::common, n);
     let text = net.text();
-    let listing = random_listing(r, &net);
+    let listing = random_listing(r, &NANOMETRES, &net);
     for _ in 0..4 {
         let mut other = listing.clone();
         let (i, j) = (1 + r.index(2 * n - 1), 1 + r.index(2 * n - 1));

@@ -5,11 +5,12 @@ use crate::metals;
 use crate::near;
 use crate::nets;
 use crate::random::Random;
+use crate::ranges::{self, NANOMETRES};
 use crate::session::Session;
 use crate::shapes::{Make, SHAPES};
 use crate::trees;
 use repeater_tree::LISTING_LENGTH;
-use second_reference::listing::Listing;
+use second_reference::listing::{Listing, WIRE};
 use second_reference::net::{Factors, Net, COORDINATE};
 use second_reference::slow::listing_of;
 use second_reference::tree;
@@ -17,10 +18,10 @@ use second_reference::tree;
 /// Every shape with factors as far apart as can be.
 pub fn far_apart(s: &mut Session, r: &mut Random) {
     let n = near_size(r);
-    let (_, make) = r.pick(&SHAPES);
-    let net = make(r, n);
+    let ((_, make), ranges) = (r.pick(&SHAPES), ranges::any(r));
+    let net = make(r, ranges, n);
     let wire = metals::far_apart(r);
-    plan_and_judge(s, &metals::slacks_kept(net.clone(), wire));
+    plan_and_judge(s, &metals::slacks_kept(ranges, net.clone(), wire));
     plan_and_judge(s, &Net { wire, ..net });
 }
 
@@ -28,19 +29,17 @@ pub fn far_apart(s: &mut Session, r: &mut Random) {
 /// factors.
 pub fn ties(s: &mut Session, r: &mut Random) {
     let n = near_size(r);
-    plan_and_judge(s, &metals::balanced(r, n));
-    let net = nets::tied(r, n);
-    let wire = metals::factors(r);
-    plan_and_judge(s, &metals::slacks_kept(net, wire));
+    let ranges = ranges::any(r);
+    plan_and_judge(s, &metals::balanced(r, ranges, n));
+    plan_and_judge(s, &metals::differing(r, ranges, nets::tied, n));
 }
 
 /// Many edges tie, and nearness would choose otherwise if it were weighed.
 pub fn nearness(s: &mut Session, r: &mut Random) {
     let n = near_size(r);
     let make: Make = r.pick(&[near::spread_out as Make, near::as_near, near::few_spots]);
-    let net = make(r, n);
-    let wire = metals::factors(r);
-    plan_and_judge(s, &metals::slacks_kept(net, wire));
+    let ranges = ranges::any(r);
+    plan_and_judge(s, &metals::differing(r, ranges, make, n));
 }
 
 /// With x and y exchanged, and the factors with them, the plan is the same but
@@ -69,8 +68,8 @@ pub fn listings(s: &mut Session, r: &mut Random) {
     let n = r.pick(&[1, 2, 3, 5, 12, 40]);
     let net = nets::any(r, n);
     let parent = trees::random_parents(r, n);
-    let reach = r.pick(&[3, 5_000, COORDINATE]);
-    let listing = listing_of(&net, trees::placed(r, &net, parent, reach));
+    let reach = r.pick(&[3, 5_000_000, COORDINATE]);
+    let listing = listing_of(&net, trees::placed(r, &NANOMETRES, &net, parent, reach));
     judged(s, &net, &listing, 0);
     for wire in others(net.wire) {
         let mut other = net.clone();
@@ -106,7 +105,7 @@ fn weighed_wire(net: &Net, listing: &Listing) -> i64 {
     let tree = &listing.tree;
     let delay = |v: usize| net.wire.delay(tree.point[v], tree.point[tree.parent[v]]);
     let sum: i128 = (1..tree.parent.len()).map(delay).sum();
-    sum.min(1_000_000_000) as i64
+    sum.min(WIRE.1 as i128) as i64
 }
 
 /// The listing's line of wire has one number still.

@@ -5,6 +5,7 @@ mod far;
 mod listings;
 mod metals;
 mod planned;
+mod scaled;
 mod spoilt;
 mod wire_line;
 
@@ -65,4 +66,8 @@ pub const ALL: &[Kind] = &[
     kind("mirrored", 1, metals::mirrored),
     kind("metal-listings", 1, metals::listings),
     kind("wire-line", 20, wire_line::all),
+    kind("scaled-marked", 100, scaled::marked),
+    kind("scaled", 1, scaled::images),
+    kind("scaled-down", 1, scaled::quotients),
+    kind("scaled-listings", 1, scaled::listings),
 ];

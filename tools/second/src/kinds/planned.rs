@@ -4,8 +4,9 @@ use crate::metals;
 use crate::near;
 use crate::nets;
 use crate::random::Random;
+use crate::ranges::NANOMETRES;
 use crate::session::Session;
-use crate::shapes::{MARKED, METALS, SHAPES};
+use crate::shapes::{MARKED, METALS, RANGE_END, SHAPES};
 use repeater_tree::LISTING_LENGTH;
 use second_reference::kraft;
 use second_reference::net::{Net, NEED};
@@ -47,7 +48,7 @@ pub fn plan_and_judge(s: &mut Session, net: &Net) {
 }
 
 pub fn marked(s: &mut Session, _: &mut Random) {
-    for (_, text) in MARKED.iter().chain(&METALS) {
+    for (_, text) in MARKED.iter().chain(&METALS).chain(&RANGE_END) {
         let Ok(mut net) = Net::read(text) else {
             s.disagree("the slow reference refuses a marked net", &[("net", text)]);
             continue;
@@ -83,7 +84,7 @@ pub fn extremes(s: &mut Session, r: &mut Random) {
 }
 
 pub fn longest(s: &mut Session, _: &mut Random) {
-    plan_and_judge(s, &nets::longest());
+    plan_and_judge(s, &nets::longest(&NANOMETRES));
 }
 
 pub fn path_like(s: &mut Session, r: &mut Random) {

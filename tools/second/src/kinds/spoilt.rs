@@ -4,6 +4,7 @@ use crate::damage;
 use crate::metals;
 use crate::nets;
 use crate::random::Random;
+use crate::ranges::NANOMETRES;
 use crate::session::Session;
 use repeater_tree::{LISTING_LENGTH, NET_LENGTH};
 use second_reference::net::Net;
@@ -99,7 +100,7 @@ pub fn numbers(s: &mut Session, r: &mut Random) {
     }
     // In a corner a pin at the end of the range is near enough.
     let n = r.between(1, 4) as usize;
-    let (net, listing) = texts_of(s, &metals::drawn(r, nets::cornered, n));
+    let (net, listing) = texts_of(s, &metals::drawn_in(r, &NANOMETRES, nets::cornered, n));
     net_numbers(s, &net, &listing);
 }
 
@@ -130,6 +131,9 @@ fn each_number(text: &[u8]) -> Vec<Vec<u8>> {
     all
 }
 
+/// As long as a listing could be before request 5, and longer than a net.
+const FEWER: usize = 24_576;
+
 /// Texts exactly at their length limit, and one past it.
 pub fn lengths(s: &mut Session, r: &mut Random) {
     let (net, listing) = small_texts(s, r, 6);
@@ -138,7 +142,7 @@ pub fn lengths(s: &mut Session, r: &mut Random) {
         NET_LENGTH - 1,
         NET_LENGTH,
         NET_LENGTH + 1,
-        LISTING_LENGTH,
+        FEWER + 1,
         3 * NET_LENGTH,
     ] {
         for other in damage::of_length(r, &net, length) {
@@ -150,6 +154,7 @@ pub fn lengths(s: &mut Session, r: &mut Random) {
         LISTING_LENGTH - 1,
         LISTING_LENGTH,
         LISTING_LENGTH + 1,
+        FEWER + 1,
         3 * LISTING_LENGTH,
     ] {
         for other in damage::of_length(r, &listing, length) {

@@ -14,7 +14,7 @@ pub const A: &str =
 pub const LISTING: &str =
     "slack=0\nwire=32\nsinks=3\nleaf=1,5\nleaf=2,5\nleaf=3,4\nnode=4,0,4,0\nnode=5,4,4,0\n";
 
-/// A's pins, later due, where a micrometre upward costs three times as much.
+/// A's pins, later due, where a nanometre upward costs three times as much.
 const TWO_METALS: &str =
     "root=0,0\nbranch=20\nwire=2,6\nneed=0\nsinks=3\nsink=10,0,100\nsink=4,6,110\nsink=10,10,150\n";
 const TWO_METALS_LISTING: &str =
@@ -126,7 +126,7 @@ fn plans() -> Vec<Case> {
         ),
         plan(
             "plan a far pin",
-            &with("sink=4,6,60", "sink=40000,1,60"),
+            &with("sink=4,6,60", "sink=40000000,1,60"),
             "refused=13,1,7\n",
             "standard input:7: the sink is too far from the root\n",
         ),

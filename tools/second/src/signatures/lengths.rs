@@ -9,7 +9,7 @@ use std::collections::BTreeMap;
 pub type Code = BTreeMap<String, String>;
 
 /// The function that gives the number, and the file that defines it.
-const NUMBER: &str = "micrometres";
+const NUMBER: &str = "nanometres";
 const LENGTH: &str = "crates/quantities/src/length.rt";
 
 /// The file of the product.

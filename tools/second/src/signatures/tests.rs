@@ -211,18 +211,18 @@ fn an_inline_function_that_differs_is_told() {
 
 #[test]
 fn another_limit_is_told() {
-    let far = "REPEATER_TREE_PIN_LIMIT is 40000, ";
+    let far = "REPEATER_TREE_PIN_LIMIT is 40000000, ";
     told(
-        planted(limits, "40_000", "50_000"),
-        &format!("{far}crates/*/src/limits.rt has 50000"),
+        planted(limits, "40_000_000", "50_000_000"),
+        &format!("{far}crates/*/src/limits.rt has 50000000"),
     );
     told(
-        planted(wrapper, "40_000", "4_000"),
-        &format!("{far}callers/rust/src/lib.rs has 4000"),
+        planted(wrapper, "40_000_000", "4_000_000"),
+        &format!("{far}callers/rust/src/lib.rs has 4000000"),
     );
     told(
-        planted(header, "PIN_LIMIT 40000", "PIN_LIMIT 4000"),
-        "PIN_LIMIT is 4000, ",
+        planted(header, "PIN_LIMIT 40000000", "PIN_LIMIT 4000000"),
+        "PIN_LIMIT is 4000000, ",
     );
     told(
         planted(
@@ -252,7 +252,7 @@ fn limits_that_differ_are_told() {
     let differences = compare(&sources).differences;
     told(
         differences,
-        "crates/*/src/limits.rt: PIN_LIMIT is 40000 and 1",
+        "crates/*/src/limits.rt: PIN_LIMIT is 40000000 and 1",
     );
 }
 
@@ -272,15 +272,15 @@ fn another_version_is_told() {
 #[test]
 fn another_place_that_takes_a_length_is_told() {
     let other = format!("{MEASURES}: a length's number is taken 1 times, 0 listed");
-    for taken in ["wire.micrometres()", "Length::micrometres(wire)"] {
+    for taken in ["wire.nanometres()", "Length::nanometres(wire)"] {
         told(planted(measures, "Time::of(0)", taken), &other);
     }
     told(
-        planted(writer, "n as i64", "wire.micrometres() as i64"),
+        planted(writer, "n as i64", "wire.nanometres() as i64"),
         &format!("{WRITER}: a length's number is taken 2 times, 1 listed"),
     );
     told(
-        planted(writer, "wire.micrometres()", "0"),
+        planted(writer, "wire.nanometres()", "0"),
         &format!("{WRITER}: a length's number is taken 0 times, 1 listed"),
     );
 }
@@ -303,8 +303,8 @@ fn a_time_made_of_a_length_is_told() {
     told(
         planted(
             product,
-            "let product = self.0 * length.micrometres();\n        Time::of(product as i64)",
-            "Time::of((length.micrometres()) as i64)",
+            "let product = self.0 * length.nanometres();\n        Time::of(product as i64)",
+            "Time::of((length.nanometres()) as i64)",
         ),
         &format!("{PRODUCT}: {made}"),
     );
@@ -312,15 +312,15 @@ fn a_time_made_of_a_length_is_told() {
         planted(
             pair,
             "self.vertical.delay(span(p.y, q.y))",
-            "Time::of(span(p.y, q.y).micrometres() as i64)",
+            "Time::of(span(p.y, q.y).nanometres() as i64)",
         ),
         &format!("{PAIR}: {made}"),
     );
     told(
         planted(
             writer,
-            "wire.micrometres() as i64",
-            "Time::of(wire.micrometres() as i64).femtoseconds()",
+            "wire.nanometres() as i64",
+            "Time::of(wire.nanometres() as i64).attoseconds()",
         ),
         &format!("{WRITER}: {made}"),
     );

@@ -5,18 +5,20 @@ mod set;
 #[cfg(test)]
 mod tests;
 
+use set::original;
 pub use set::{drawn, LEAST_NETS};
 
 use crate::library;
 use crate::planners::{GATHERED, LIBRARY, PLAIN, SLOW};
 use crate::programs::{judge_text, Programs};
+use crate::scaled;
 use repeater_tree::LISTING_LENGTH;
 use second_reference::answer::Answer;
 use second_reference::net::Net;
 use second_reference::{plain, slow};
 use std::collections::BTreeSet;
 use std::fs;
-use std::io::{Result, Write};
+use std::io::{ErrorKind, Result, Write};
 use std::path::{Path, PathBuf};
 
 const NET: &str = "net";
@@ -28,6 +30,8 @@ pub struct Report {
     pub sinks: usize,
     /// Nets that the slow reference planned too.
     pub slow: usize,
+    /// Nets beside another that they are a multiple of.
+    pub images: usize,
     pub faults: Vec<String>,
 }
 
@@ -50,12 +54,9 @@ pub fn check(folder: &Path, least: usize, programs: Option<&Programs>) -> Result
         faults.push(format!("{} nets, at least {least} are due", nets.len()));
     }
     for name in nets.intersection(&trees) {
-        let pair = Pair {
-            name: name.clone(),
-            net: fs::read(path(folder, name, NET))?,
-            listing: fs::read(path(folder, name, TREE))?,
-        };
+        let pair = Pair::read(folder, name)?;
         pair.compare(programs, &mut report)?;
+        pair.compare_original(folder, &mut report)?;
     }
     Ok(report)
 }
@@ -119,6 +120,49 @@ fn planned(plan: fn(&[u8], &mut [u8]) -> Answer, net: &[u8]) -> (Answer, Vec<u8>
 }
 
 impl Pair {
+    fn read(folder: &Path, name: &str) -> Result<Pair> {
+        Ok(Pair {
+            name: name.to_string(),
+            net: fs::read(path(folder, name, NET))?,
+            listing: fs::read(path(folder, name, TREE))?,
+        })
+    }
+
+    /// Where the name says that this is a multiple of another, it is.
+    fn compare_original(&self, folder: &Path, report: &mut Report) -> Result<()> {
+        let Some((name, factor)) = original(&self.name) else {
+            return Ok(());
+        };
+        report.images += 1;
+        match Pair::read(folder, &name) {
+            Err(e) if e.kind() == ErrorKind::NotFound => {
+                self.fault(report, &format!("{name} is not there"));
+            }
+            original => self.compare_image(&original?, factor, report),
+        }
+        Ok(())
+    }
+
+    /// Both texts are those of the original, so many times as large.
+    fn compare_image(&self, original: &Pair, factor: i64, report: &mut Report) {
+        for (what, own, image) in [
+            ("net", &self.net, scaled::net(&original.net, factor)),
+            (
+                "listing",
+                &self.listing,
+                scaled::listing(&original.listing, factor),
+            ),
+        ] {
+            if image.as_ref() != Some(own) {
+                let name = &original.name;
+                self.fault(
+                    report,
+                    &format!("its {what} is not {factor} times {name}'s"),
+                );
+            }
+        }
+    }
+
     fn compare(&self, programs: Option<&Programs>, report: &mut Report) -> Result<()> {
         let mut planners = vec![LIBRARY, PLAIN, GATHERED];
         match Net::read(&self.net) {

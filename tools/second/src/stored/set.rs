@@ -3,12 +3,14 @@
 use crate::metals;
 use crate::nets;
 use crate::random::Random;
-use crate::shapes::{MARKED, METALS, SHAPES};
+use crate::ranges::{Ranges, MICROMETRES, NANOMETRES};
+use crate::scaled;
+use crate::shapes::{MARKED, METALS, RANGE_END, SHAPES};
 use second_reference::kraft;
 use second_reference::net::{Factors, Net};
 
 /// The set has so many; more may come, and none may go.
-pub const LEAST_NETS: usize = 123;
+pub const LEAST_NETS: usize = 149;
 
 const SEED: u64 = 20_090_401;
 
@@ -35,33 +37,97 @@ const TWO_METALS: [(&str, i64, i64, usize); 16] = [
     ("near-root", 5, 1, 65),
 ];
 
-/// Every net of the set, by name: those that are given, the longest, each shape
-/// in several sizes, and those of two factors.
-pub fn drawn() -> Vec<(String, Vec<u8>)> {
-    let mut all: Vec<(String, Vec<u8>)> = MARKED
-        .iter()
-        .chain(&METALS)
-        .map(|(name, net)| (name.to_string(), net.to_vec()))
-        .collect();
-    all.push(("longest-512".to_string(), nets::longest().text()));
+/// A shape, its factors where they differ, and a size.
+type Asked = (&'static str, Option<(i64, i64)>, usize);
+
+/// Nets of the format's ranges, to their ends.
+const NANOMETRE_NETS: [Asked; 17] = [
+    ("common", None, 12),
+    ("common", Some((120, 200)), 512),
+    ("coincident", None, 16),
+    ("cornered", None, 2),
+    ("cornered", None, 65),
+    ("cornered", Some((3, 2)), 512),
+    ("extreme", None, 1),
+    ("extreme", None, 17),
+    ("extreme", None, 512),
+    ("extreme", Some((1, 10_000)), 16),
+    ("extreme", Some((10_000, 1)), 64),
+    ("few-spots", None, 17),
+    ("spread-out", None, 3),
+    ("spread-out", None, 64),
+    ("spread-out", Some((10_000, 1)), 512),
+    ("tree-near-root", None, 512),
+    ("path-near-root", None, 65),
+];
+
+/// Stored nets of which the set has the image too.
+const IMAGES_OF: [&str; 7] = [
+    "marked-a-3",
+    "two-metals-3",
+    "tied-65",
+    "coincident-17",
+    "extreme-wire-10000-1-64",
+    "as-near-512",
+    "spread-out-512",
+];
+
+/// What an image's name has before its number of sinks, and what it means.
+const TIMES: &str = "-times-1000";
+const FACTOR: i64 = 1_000;
+
+type Named = (String, Vec<u8>);
+
+/// Every net of the set, by name. Those with neither `nm` nor `times` in their
+/// names are of the ranges before request 5, which lie within the format's.
+pub fn drawn() -> Vec<Named> {
+    let mut all = given();
     for (i, (shape, _)) in SHAPES.into_iter().enumerate() {
         for n in SIZES[i % SIZES.len()] {
-            let name = format!("{shape}-{n}");
-            let net = draw(&name, shape, n);
-            all.push((name, asking(net)));
+            all.push(draw(&MICROMETRES, shape, None, n));
         }
     }
     for (shape, horizontal, vertical, n) in TWO_METALS {
-        let name = format!("{shape}-wire-{horizontal}-{vertical}-{n}");
-        let wire = Factors::new(horizontal, vertical);
-        let net = metals::slacks_kept(draw(&name, shape, n), wire);
-        all.push((name, asking(net)));
+        let wire = Some((horizontal, vertical));
+        all.push(draw(&MICROMETRES, shape, wire, n));
     }
+    for (shape, wire, n) in NANOMETRE_NETS {
+        all.push(draw(&NANOMETRES, &format!("{shape}-nm"), wire, n));
+    }
+    let images: Vec<Named> = IMAGES_OF.iter().map(|name| image(&all, name)).collect();
+    all.extend(images);
     all
 }
 
+/// The marked nets and the longest.
+fn given() -> Vec<Named> {
+    let marked = MARKED.iter().chain(&METALS).chain(&RANGE_END);
+    let marked = marked.map(|(name, net)| (name.to_string(), net.to_vec()));
+    let longest = [("longest-512", MICROMETRES), ("longest-nm-512", NANOMETRES)];
+    let longest = longest.map(|(name, ranges)| (name.to_string(), nets::longest(&ranges).text()));
+    marked.chain(longest).collect()
+}
+
+fn image(all: &[Named], name: &str) -> Named {
+    let (_, net) = all.iter().find(|(n, _)| n == name).expect("a stored net");
+    let (shape, n) = name.rsplit_once('-').expect("a name ends with its sinks");
+    let image = scaled::net(net, FACTOR).expect("a net's text");
+    (format!("{shape}{TIMES}-{n}"), image)
+}
+
+/// The net of which this one is the image, by its name, and how many times.
+pub fn original(name: &str) -> Option<(String, i64)> {
+    name.contains(TIMES)
+        .then(|| (name.replacen(TIMES, "", 1), FACTOR))
+}
+
 /// By a seed of its own, so that no net depends on the others.
-fn draw(name: &str, shape: &str, n: usize) -> Net {
+fn draw(ranges: &Ranges, named: &str, wire: Option<(i64, i64)>, n: usize) -> Named {
+    let name = match wire {
+        Some((h, v)) => format!("{named}-wire-{h}-{v}-{n}"),
+        None => format!("{named}-{n}"),
+    };
+    let shape = named.trim_end_matches("-nm");
     let seed = name.bytes().fold(SEED, |seed, byte| {
         seed.wrapping_mul(31).wrapping_add(byte.into())
     });
@@ -69,7 +135,11 @@ fn draw(name: &str, shape: &str, n: usize) -> Net {
         .into_iter()
         .find(|(name, _)| *name == shape)
         .expect("a shape's name");
-    make(&mut Random::new(seed), n)
+    let mut net = make(&mut Random::new(seed), ranges, n);
+    if let Some((h, v)) = wire {
+        net = metals::slacks_kept(ranges, net, Factors::new(h, v));
+    }
+    (name, asking(net))
 }
 
 /// The need is the best slack where the number of sinks is even, else as it

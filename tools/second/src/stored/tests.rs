@@ -2,7 +2,7 @@
 
 use super::{check, drawn, path, write, Report, LEAST_NETS, NET, TREE};
 use std::fs;
-use std::path::PathBuf;
+use std::path::{Path, PathBuf};
 
 /// Removed when the test ends.
 struct Folder(PathBuf);
@@ -16,19 +16,27 @@ impl Drop for Folder {
 const NAME: &str = "near-root-3";
 const NETS: usize = 3;
 
-fn few() -> Vec<(String, Vec<u8>)> {
+fn named(names: &[&str]) -> Vec<(String, Vec<u8>)> {
     let mut nets = drawn();
-    nets.retain(|(name, _)| [NAME, "tied-2", "tree-near-root-3"].contains(&name.as_str()));
+    nets.retain(|(name, _)| names.contains(&name.as_str()));
     nets
 }
 
+fn few() -> Vec<(String, Vec<u8>)> {
+    named(&[NAME, "tied-2", "tree-near-root-3"])
+}
+
 /// Named after its test, so that tests do not meet.
-fn stored(test: &str) -> Folder {
+fn folder_of(test: &str, nets: &[(String, Vec<u8>)]) -> Folder {
     let name = format!("repeater_tree_{test}_{}", std::process::id());
     let folder = Folder(std::env::temp_dir().join(name));
     fs::create_dir_all(&folder.0).unwrap();
-    assert_eq!(write(&folder.0, &few(), None).unwrap().nets, NETS);
+    assert_eq!(write(&folder.0, nets, None).unwrap().nets, nets.len());
     folder
+}
+
+fn stored(test: &str) -> Folder {
+    folder_of(test, &few())
 }
 
 impl Folder {
@@ -44,6 +52,38 @@ impl Folder {
 #[test]
 fn the_set_has_its_least_number() {
     assert_eq!(drawn().len(), LEAST_NETS);
+}
+
+/// The files are those that the seed draws, byte for byte.
+#[test]
+fn the_set_is_what_is_stored() {
+    let folder = Path::new(concat!(env!("CARGO_MANIFEST_DIR"), "/../stored"));
+    for (name, net) in drawn() {
+        let file = path(folder, &name, NET);
+        assert!(fs::read(&file).unwrap() == net, "{name}");
+    }
+}
+
+/// The original's net with its listing, so that both planners' and judges'
+/// words are right and the law alone is broken; then no original at all.
+#[test]
+fn an_image_of_another_net_is_told() {
+    let (name, original) = ("marked-a-times-1000-3", "marked-a-3");
+    let folder = folder_of("image", &named(&[name, original]));
+    let report = check(&folder.0, 2, None).unwrap();
+    assert_eq!((report.images, report.faults.len()), (1, 0));
+    for extension in [NET, TREE] {
+        let [from, to] = [original, name].map(|name| path(&folder.0, name, extension));
+        fs::copy(from, to).unwrap();
+    }
+    let told = |what: &str| format!("{name}: its {what} is not 1000 times {original}'s");
+    let faults = check(&folder.0, 2, None).unwrap().faults;
+    assert_eq!(faults, [told("net"), told("listing")]);
+    for extension in [NET, TREE] {
+        fs::remove_file(path(&folder.0, original, extension)).unwrap();
+    }
+    let faults = check(&folder.0, 1, None).unwrap().faults;
+    assert_eq!(faults, [format!("{name}: {original} is not there")]);
 }
 
 #[test]

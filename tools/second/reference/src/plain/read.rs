@@ -14,7 +14,7 @@ pub struct Net {
     pub arrivals: Vec<i64>,
 }
 
-/// Per micrometre across and upward.
+/// Attoseconds per nanometre across and upward.
 #[derive(Clone, Copy)]
 pub struct Factors {
     pub horizontal: i64,
@@ -41,7 +41,7 @@ pub struct Listing {
 }
 
 /// A sink that is farther from the root is the global planner's.
-const FARTHEST: i64 = 40_000;
+const FARTHEST: i64 = 40_000_000;
 
 /// Any value beyond every range, for numbers too long to hold.
 const HUGE: i64 = i64::MAX / 16;
@@ -117,7 +117,7 @@ impl<'a> Cursor<'a> {
     }
 
     fn coordinate(&self, value: i64) -> Read<i64> {
-        self.within(value, -100_000, 100_000)
+        self.within(value, -100_000_000, 100_000_000)
     }
 
     fn single(&mut self, key: &[u8], low: i64, high: i64) -> Read<i64> {
@@ -137,14 +137,14 @@ impl<'a> Cursor<'a> {
 }
 
 pub fn net(bytes: &[u8]) -> Read<Net> {
-    let mut c = Cursor::new(bytes, 1, 20_480)?;
+    let mut c = Cursor::new(bytes, 1, 32_768)?;
     c.key(b"root=")?;
     let (x, y) = (c.number(b',')?, c.number(b'\n')?);
     let root = (c.coordinate(x)?, c.coordinate(y)?);
     c.line += 1;
-    let branch = c.single(b"branch=", 1, 1_000_000)?;
+    let branch = c.single(b"branch=", 1, 1_000_000_000)?;
     let wire = factors(&mut c)?;
-    let need = c.single(b"need=", -2_000_000_000_000, 2_000_000_000_000)?;
+    let need = c.single(b"need=", -2_000_000_000_000_000, 2_000_000_000_000_000)?;
     let n = c.single(b"sinks=", 1, 512)? as usize;
     let mut points = Vec::with_capacity(2 * n);
     let mut arrivals = Vec::with_capacity(n + 1);
@@ -182,7 +182,7 @@ fn sink(c: &mut Cursor, root: Point) -> Read<(Point, i64)> {
     c.key(b"sink=")?;
     let (x, y, a) = (c.number(b',')?, c.number(b',')?, c.number(b'\n')?);
     let at = (c.coordinate(x)?, c.coordinate(y)?);
-    let arrival = c.within(a, -1_000_000_000_000, 1_000_000_000_000)?;
+    let arrival = c.within(a, -1_000_000_000_000_000, 1_000_000_000_000_000)?;
     if distance(root, at) > FARTHEST {
         return c.fail(13);
     }
@@ -191,9 +191,9 @@ fn sink(c: &mut Cursor, root: Point) -> Read<(Point, i64)> {
 
 pub fn listing(bytes: &[u8], net: &Net) -> Read<Listing> {
     let n = net.sinks();
-    let mut c = Cursor::new(bytes, 2, 24_576)?;
-    let slack = c.single(b"slack=", -4_000_000_000_000, 4_000_000_000_000)?;
-    let wire = c.single(b"wire=", 0, 1_000_000_000)?;
+    let mut c = Cursor::new(bytes, 2, 32_768)?;
+    let slack = c.single(b"slack=", -4_000_000_000_000_000, 4_000_000_000_000_000)?;
+    let wire = c.single(b"wire=", 0, 1_000_000_000_000)?;
     if c.single(b"sinks=", 1, 512)? != n as i64 {
         return Err(Refusal {
             number: 7,
