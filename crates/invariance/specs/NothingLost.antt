@@ -1,4 +1,4 @@
--- 02, request 5: "Nothing is lost", as a statement about the definitions, for any factor, and about what plan answers and writes, for 1,000; with it what judge answers.
+-- 02, request 5: "Nothing is lost", as a statement about the definitions and about what plan answers and writes; with it what judge answers.
 use Prim.Native.Nat.{ℕ, _*_, _≤_}
 use mathlib.Core.Path.{_≡_}
 use mathlib.Core.Logic.{_↔_}
@@ -35,16 +35,23 @@ pub record AcceptedNet (net out : List ℕ) (N : Net) (w : Written) (G : Listing
   pub answer : planOf net (length out) ≡ value w
   pub listing : ListingInFormat (size N) (writtenTo net out w) G
 
+-- texts of the net N and of the net multiplied by k
+pub record Multiplied (k : ℕ) : Type 0 where
+  -- "both plans have the same parents, and the one has slack, wire and branch positions 1,000 [k] times as large": in the listings that are written, and slack and
+  -- wire in the answers too
+  pub planned : (net net′ out out′ : List ℕ) (N : Net) (w w′ : Written) (G G′ : Listing) → AcceptedNet net out N w G → AcceptedNet net′ out′ (timesNet k N) w′ G′
+      → (G′ ≡ timesListing k G) × (w′ .slack ≡ w .slack *ℤ pos k) × (w′ .wire ≡ w .wire * k)
+  -- the one is refused by 5 exactly where the other is
+  pub unreachable : (net net′ : List ℕ) (N : Net) → InFormat net N → InFormat net′ (timesNet k N) → (room room′ : ℕ) → (planOf net′ room′ ≡ refused Unreachable) ↔ (planOf net room ≡ refused Unreachable)
+  -- a listing that judge accepts is accepted over the other net when it is multiplied too
+  pub judged : (net net′ listing listing′ : List ℕ) (N : Net) (G : Listing) (j : Judgement) → InFormat net N → InFormat net′ (timesNet k N)
+      → ListingInFormat (size N) listing G → ListingInFormat (size N) listing′ (timesListing k G) → judgeOf net listing ≡ value j → judgeOf net′ listing′ ≡ value (timesJudgement k j)
+
 pub record NothingLost : Type 0 where
-  pub scales : (k : ℕ) → 1 ≤ k → (N : Net) → 1 ≤ N .branch → 1 ≤ size N → Scales k N
   -- whenever plan refuses nothing there are such a net and listing
   pub accepted : (net out : List ℕ) (w : Written) → planOf net (length out) ≡ value w → (N : Net) × ((G : Listing) × AcceptedNet net out N w G)
-  -- "of two accepted nets .. one having every position, c, t and every a of the other multiplied by 1,000, with h, v and n alike, both plans have the same parents,
-  -- and the one has slack, wire and branch positions 1,000 times as large": in the listings that are written, and slack and wire in the answers too
-  pub thousandfold : (net net′ out out′ : List ℕ) (N : Net) (w w′ : Written) (G G′ : Listing) → AcceptedNet net out N w G → AcceptedNet net′ out′ (timesNet thousand N) w′ G′
-      → (G′ ≡ timesListing thousand G) × (w′ .slack ≡ w .slack *ℤ pos thousand) × (w′ .wire ≡ w .wire * thousand)
-  -- and the one is refused by 5 exactly where the other is
-  pub unreachable : (net net′ : List ℕ) (N : Net) → InFormat net N → InFormat net′ (timesNet thousand N) → (room room′ : ℕ) → (planOf net′ room′ ≡ refused Unreachable) ↔ (planOf net room ≡ refused Unreachable)
-  -- and a listing that judge accepts is accepted over the other net when it is multiplied too
-  pub judged : (net net′ listing listing′ : List ℕ) (N : Net) (G : Listing) (j : Judgement) → InFormat net N → InFormat net′ (timesNet thousand N)
-      → ListingInFormat (size N) listing G → ListingInFormat (size N) listing′ (timesListing thousand G) → judgeOf net listing ≡ value j → judgeOf net′ listing′ ≡ value (timesJudgement thousand j)
+  -- "of two accepted nets .. one having every position, c, t and every a of the other multiplied by 1,000, with h, v and n alike"
+  pub thousandfold : Multiplied thousand
+  -- and by any factor, of texts as of definitions
+  pub texts : (k : ℕ) → 1 ≤ k → Multiplied k
+  pub scales : (k : ℕ) → 1 ≤ k → (N : Net) → 1 ≤ N .branch → 1 ≤ size N → Scales k N

@@ -22,7 +22,7 @@ use Rattle.formats.proofs.Laws.Lines.DueTexts.{never}
 use Rattle.operations.specs.Answers.{Written, planned, planOf}
 use Rattle.operations.proofs.Laws.Demands.{demands}
 use Rattle.invariance.specs.Times.{thousand, timesNet, timesTree, timesListing}
-use Rattle.invariance.specs.NothingLost.{Scales, AcceptedNet, NothingLost}
+use Rattle.invariance.specs.NothingLost.{Scales, AcceptedNet, Multiplied, NothingLost}
 use Rattle.invariance.proofs.Laws.Times.{scales, scales-in}
 use Rattle.invariance.proofs.Laws.Judged.{judged-times}
 use Rattle.invariance.proofs.Laws.Written.{answer-is, listing-is, accepts}
@@ -47,9 +47,9 @@ module _ (k : ℕ) (k1 : 1 ≤ k) (net net′ : List ℕ) (N : Net) (F : InForma
   planned-times = (λ i. record { slack = worstSlack (timesNet k N) (S .planned i); wire = wireLength (timesNet k N) (S .planned i); tree = S .planned i })
       ∙ (λ i. record { slack = S .slack (plan N) i; wire = S .wire (plan N) i; tree = timesTree k (plan N) })
 
-  multiplied : (out out′ : List ℕ) (w w′ : Written) (G G′ : Listing) → AcceptedNet net out N w G → AcceptedNet net′ out′ (timesNet k N) w′ G′
+  planned-alike : (out out′ : List ℕ) (w w′ : Written) (G G′ : Listing) → AcceptedNet net out N w G → AcceptedNet net′ out′ (timesNet k N) w′ G′
       → (G′ ≡ timesListing k G) × (w′ .slack ≡ w .slack *ℤ pos k) × (w′ .wire ≡ w .wire * k)
-  multiplied out out′ w w′ G G′ A A′ =
+  planned-alike out out′ w w′ G G′ A A′ =
       let e = answer-is net out N F w (A .answer) in
       let e′ = answer-is net′ out′ (timesNet k N) F′ w′ (A′ .answer) in (
         listing-is net′ out′ (timesNet k N) F′ w′ (A′ .answer) G′ (A′ .listing) ∙ planned-times ∙ ap (timesListing k) (sym (listing-is net out N F w (A .answer) G (A .listing))),
@@ -64,11 +64,12 @@ module _ (k : ℕ) (k1 : 1 ≤ k) (net net′ : List ℕ) (N : Net) (F : InForma
       let r = rising-iff (rising-times k k1) (kraftMaximum (N .branch) (ownSlacks N)) (N .need) in
       ((λ z. a .1 (r .0 (subst (λ s. s <ℤ (N .need *ℤ pos k)) (S .best) (b .0 z)))), λ z. b .1 (subst (λ s. s <ℤ (N .need *ℤ pos k)) (sym (S .best)) (r .1 (a .0 z))))
 
-pub nothing-lost : NothingLost
-nothing-lost = record {
-  scales = scales;
-  accepted = accepted;
-  thousandfold = λ net net′ out out′ N w w′ G G′ A A′. multiplied thousand (omega arith) net net′ N (A .in-format) (A′ .in-format) out out′ w w′ G G′ A A′;
-  unreachable = λ net net′ N F F′. unreachable thousand (omega arith) net net′ N F F′;
-  judged = λ net net′ listing listing′ N G j F F′. judged-times thousand (omega arith) net net′ N F F′ listing listing′ G j;
+multiplied : (k : ℕ) → 1 ≤ k → Multiplied k
+multiplied k k1 = record {
+  planned = λ net net′ out out′ N w w′ G G′ A A′. planned-alike k k1 net net′ N (A .in-format) (A′ .in-format) out out′ w w′ G G′ A A′;
+  unreachable = λ net net′ N F F′. unreachable k k1 net net′ N F F′;
+  judged = λ net net′ listing listing′ N G j F F′. judged-times k k1 net net′ N F F′ listing listing′ G j;
 }
+
+pub nothing-lost : NothingLost
+nothing-lost = record { accepted = accepted; thousandfold = multiplied thousand (omega arith); texts = multiplied; scales = scales }
