@@ -8,11 +8,11 @@ ghost use Rattle.console.specs.Printing.{refusalText, planPrinted, judge
 use crate::complain::put_complaint;
 use crate::lines::put_measures;
 use crate::lines::put_refusal;
+use first_plan::plan::plan;
 use formats::refusal::Refusal;
+use judging::judge::judge;
 use operations::answers::JudgeAnswer;
 use operations::answers::PlanAnswer;
-use operations::judge::judge;
-use operations::plan::plan;
 
 // Room for every refusal and all measures, and for every complaint where no name has more than 128 bytes.
 pub const ANSWER_LENGTH: usize = 128;

@@ -1,13 +1,13 @@
 // The marked nets and lines that are checked by running plan and judge: number, text and line of what each returns, and plan's bytes; of the nets of 02's requests 1, 4 and 5 the listing.
+use first_plan::plan::plan;
 use formats::limits::LISTING_LENGTH_LIMIT;
 use formats::limits::NET_LENGTH_LIMIT;
 use formats::refusal::Refusal;
 use formats::refusal::tell;
+use judging::judge::judge;
 use libc::STDOUT_FILENO;
 use operations::answers::JudgeAnswer;
 use operations::answers::PlanAnswer;
-use operations::judge::judge;
-use operations::plan::plan;
 
 fn show_figures(number: u8, text: u8, line: usize, bytes: usize) {
     io::print_decimal(STDOUT_FILENO, number as u64);

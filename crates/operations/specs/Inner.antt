@@ -1,3 +1,2 @@
 -- What serves the contracts of inner functions, bottom first.
 pub mod Acceptance
-pub mod Planning

@@ -1,6 +1,4 @@
-// The operations on the two texts: plan and judge, and what they share with every operation on a net and a listing.
+// What every operation on a net and a listing shares: the answers, a listing accepted, a listing that goes out. What plan and judge answer is defined here, and the demands on them.
 pub mod accept;
 pub mod answers;
 pub mod emit;
-pub mod judge;
-pub mod plan;

@@ -2,11 +2,11 @@
 ghost use mathlib.Core.Path.{_≡_};
 ghost use lib.ListN.{length};
 ghost use Rattle.operations.specs.Answers.{planOf, planOutput, planAnswer, planFigures, judgeOf, judgeAnswer, judgeFigures};
+use first_plan::plan::plan;
 use formats::refusal::tell;
+use judging::judge::judge;
 use operations::answers::JudgeAnswer;
 use operations::answers::PlanAnswer;
-use operations::judge::judge;
-use operations::plan::plan;
 
 // Plans a net. The number of the refusal is returned, 0 where nothing is refused.
 #[no_mangle]
