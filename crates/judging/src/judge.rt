@@ -8,6 +8,7 @@ ghost use Rattle.formats.specs.Inner.Readers.{HeadHeld, HasPlace};
 ghost use Rattle.formats.specs.Inner.ListingReader.{HasVertices};
 ghost use Rattle.operations.specs.Answers.{judgeOf, judgeAnswer};
 ghost use Rattle.operations.specs.Inner.Acceptance.{HasRoom, judgeNet};
+use crate::kraft::kraft_maximum;
 use formats::read_net::HeadLines;
 use formats::read_net::NetRead;
 use formats::read_net::read_head;
@@ -18,7 +19,6 @@ use operations::accept::accept;
 use operations::answers::JudgeAnswer;
 use quantities::point::Point;
 use tree::header::Header;
-use tree::kraft::kraft_maximum;
 use tree::limits::SINK_LIMIT;
 
 // The judgement of a listing over a net that stands in the arrays. `own` is room to work in besides those of `accept`.

@@ -1,2 +1,3 @@
-// The judgement of a listing over its net. What it answers is defined in `operations`, with the demands on it.
+// The judgement of a listing over its net, and the Kraft maximum that it tells. What it answers is defined in `operations`, with the demands on it.
 pub mod judge;
+pub mod kraft;

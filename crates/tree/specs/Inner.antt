@@ -7,4 +7,3 @@ pub mod Descent
 pub mod Insertion
 pub mod Choice
 pub mod Regathering
-pub mod SinkSplits

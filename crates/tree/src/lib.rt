@@ -6,7 +6,6 @@ pub mod found;
 pub mod gather;
 pub mod header;
 pub mod insert;
-pub mod kraft;
 pub mod limits;
 pub mod measure;
 pub mod order;

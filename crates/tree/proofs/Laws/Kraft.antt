@@ -2,5 +2,3 @@
 pub mod GapSums
 pub mod Rivals
 pub mod Maximum
-pub mod SinkSplits
-pub mod SinkArrays

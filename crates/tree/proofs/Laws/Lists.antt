@@ -3,6 +3,5 @@ pub mod Sums
 pub mod Tables
 pub mod Distinct
 pub mod Searching
-pub mod Largest
 pub mod Gaps
 pub mod Filling

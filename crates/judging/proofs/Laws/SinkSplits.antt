@@ -13,20 +13,20 @@ use Rattle.quantities.specs.Inner.Linear.{whole, +is, -is}
 use Rattle.quantities.specs.Ranges.{Within}
 use Rattle.quantities.specs.Inner.Reach.{timeReach}
 use Rattle.quantities.proofs.Laws.MinMax.{min-is}
 use Rattle.tree.specs.Lists.{sumOver, delta, count}
 use Rattle.tree.specs.Net.{Net, size, ownSlack}
 use Rattle.tree.specs.Kraft.{Kraft}
 use Rattle.tree.specs.Inner.DerivedLimits.{keptSlackLimit}
 use Rattle.tree.specs.Limits.{InRange}
-use Rattle.tree.specs.Inner.SinkSplits.{Kept, LargestAt, absentLimit, absent, worstIfSplit}
+use Rattle.judging.specs.Inner.SinkSplits.{Kept, LargestAt, absentLimit, absent, worstIfSplit}
 use Rattle.tree.proofs.Laws.Lists.Sums.{delta-self, delta-ne, equal?, sumOver-scale, sumOver-change}
 use Rattle.tree.proofs.Laws.Lists.Gaps.{gap, fits, fits-back}
 use Rattle.tree.proofs.Laws.Kraft.Maximum.{maximum-single}
 use Rattle.tree.proofs.Laws.Kraft.GapSums.{AtMost, powerSum, exact-rival, exact-room}
 use Rattle.tree.proofs.Laws.Trees.LegalTrees.{bag}
 use Rattle.tree.proofs.Laws.Kraft.Rivals.{KraftOver, enough, kraft-over-less}
 use Rattle.tree.proofs.Laws.Planning.AnyTieRule.{kraft-over, over-kraft, kraft-over-bag}
 use Rattle.tree.proofs.Laws.Measures.InReach.{kept-within}
 
 -- ---- depths: v and the new sink s have one branch point more above them than v had
 

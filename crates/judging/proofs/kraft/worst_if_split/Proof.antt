@@ -7,8 +7,8 @@ use mir.Facts.{toZ-ofZ}
 use Rattle.quantities.specs.Inner.Linear.{whole, fit}
 use Rattle.quantities.specs.MinMax.{minℤ}
 use borrow.Author.Needs.{needs}
-use Rattle.tree.proofs.kraft.worst_if_split.Statement.{statement}
-use Rattle.tree.proofs.kraft.worst_if_split.Tie as tie
+use Rattle.judging.proofs.kraft.worst_if_split.Statement.{statement}
+use Rattle.judging.proofs.kraft.worst_if_split.Tie as tie
 
 mul-of : tie.Need-mul-of
 mul-of c = search needs

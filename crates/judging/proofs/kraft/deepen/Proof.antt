@@ -6,8 +6,8 @@ use lib.IntN.{ℤ, pos, _+ℤ_, _-ℤ_}
 use mir.Facts.{toZ-ofZ}
 use Rattle.quantities.specs.Inner.Linear.{whole, fit, -is}
 use borrow.Author.Needs.{needs}
-use Rattle.tree.proofs.kraft.deepen.Statement.{statement}
-use Rattle.tree.proofs.kraft.deepen.Tie as tie
+use Rattle.judging.proofs.kraft.deepen.Statement.{statement}
+use Rattle.judging.proofs.kraft.deepen.Tie as tie
 
 mul-of : tie.Need-mul-of
 mul-of c = search needs

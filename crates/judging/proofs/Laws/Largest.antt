@@ -7,8 +7,8 @@ use native.Mathlib.Omega.{arith}
 use lib.IntN.{ℤ}
 use lib.Signed.{_≤ℤ_, ≤ℤ-refl, ltZ}
 use Rattle.quantities.specs.Inner.Linear.{whole}
-use Rattle.tree.specs.Inner.SinkSplits.{LargestAt}
+use Rattle.judging.specs.Inner.SinkSplits.{LargestAt}
 use Rattle.tree.proofs.Laws.Lists.Sums.{equal?}
 
 module _ (f : ℕ → ℤ) where
   pub largest-start : LargestAt f 1 1

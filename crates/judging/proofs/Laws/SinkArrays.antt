@@ -8,24 +8,24 @@ use lib.ListN.{length, getD, set, take, drop, take-append-drop}
 use lib.Seq.{take-suc, length-take-le}
 use lib.IntN.{ℤ, pos, _+ℤ_, _-ℤ_}
 use Rattle.quantities.specs.Ranges.{Within}
 use Rattle.tree.specs.declared.header.Header.{Header}
 use Rattle.tree.specs.Lists.{count, down, range}
 use Rattle.tree.specs.Net.{Net, size, ownSlack, ownSlacks}
 use Rattle.tree.specs.Kraft.{IsKraftMaximum}
 use Rattle.tree.specs.Planning.{order}
 use Rattle.tree.specs.Limits.{sinkLimit}
 use Rattle.tree.specs.Inner.Arrays.{netOf, HoldsNet}
 use Rattle.tree.specs.SmallestSlack.{sinksIn, nextSink}
 use Rattle.tree.proofs.Laws.Arrays.ReadyNet.{few-sinks, line-at, line-in}
-use Rattle.tree.specs.Inner.SinkSplits.{SinksReady, Kept, LargestAt, absentLimit, absent, worstIfSplit}
+use Rattle.judging.specs.Inner.SinkSplits.{SinksReady, Kept, LargestAt, absentLimit, absent, worstIfSplit}
 use Rattle.tree.proofs.Laws.Lists.Sums.{down-in, down-once}
 use Rattle.tree.proofs.Laws.Trees.LegalTrees.{somewhere}
 use Rattle.tree.proofs.Laws.Planning.BeforeSettling.{count-append, order-count, order-length, take-all}
 use Rattle.tree.proofs.Laws.Settling.SlackKept.{range-count}
 use Rattle.tree.proofs.Laws.Planning.Steps.{newest-count, inserted, order-in, next-fresh, inserted-rising}
 use Rattle.tree.proofs.Laws.Arrays.NetAndTree.{size-is}
 use Rattle.tree.proofs.Laws.Measures.MeasuredArrays.{branch-is}
-use Rattle.tree.proofs.Laws.Kraft.SinkSplits.{kraft-bag, kept-first, kept-bag, slack-place, worst-meets, roomiest-in, kept-split}
+use Rattle.judging.proofs.Laws.SinkSplits.{kraft-bag, kept-first, kept-bag, slack-place, worst-meets, roomiest-in, kept-split}
 
 -- ---- the sinks that are in after k splits
 

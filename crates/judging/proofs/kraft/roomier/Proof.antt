@@ -4,9 +4,9 @@ use mathlib.Core.Bool.{Bool, true, false, cond}
 use lib.Signed.{ltZ}
 use lib.IntN.{ℤ}
 use borrow.Author.Needs.{needs}
-use Rattle.tree.specs.Inner.SinkSplits.{worstIfSplit}
-use Rattle.tree.proofs.kraft.roomier.Statement.{statement}
-use Rattle.tree.proofs.kraft.roomier.Tie as tie
+use Rattle.judging.specs.Inner.SinkSplits.{worstIfSplit}
+use Rattle.judging.proofs.kraft.roomier.Statement.{statement}
+use Rattle.judging.proofs.kraft.roomier.Tie as tie
 
 -- what is left after a split at u, and at the best so far
 abbrev at : tie.Start → ℤ

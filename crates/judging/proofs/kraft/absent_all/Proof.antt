@@ -4,10 +4,10 @@ use mathlib.Core.Path.{_≡_, refl, _∙_}
 use native.Mathlib.Omega.{arith}
 use lib.ListN.{length, getD, length-set}
 use lib.IntN.{pos}
-use Rattle.tree.specs.Inner.SinkSplits.{absent}
+use Rattle.judging.specs.Inner.SinkSplits.{absent}
 use Rattle.tree.proofs.Laws.Lists.Filling.{filled-more}
-use Rattle.tree.proofs.kraft.absent_all.Statement.{statement}
-use Rattle.tree.proofs.kraft.absent_all.Tie as tie
+use Rattle.judging.proofs.kraft.absent_all.Statement.{statement}
+use Rattle.judging.proofs.kraft.absent_all.Tie as tie
 
 abbrev Inv-loop : tie.InvT-loop
 Inv-loop slacks₀ n u₀ slacks u = (1 ≤ u) × (length slacks ≡ length slacks₀) × ((v : ℕ) → 1 ≤ v → v < u → getD slacks v (pos 0) ≡ absent)

@@ -9,10 +9,10 @@ use lib.Signed.{ltZ}
 use Rattle.quantities.specs.Inner.Linear.{whole}
 use Rattle.quantities.proofs.Laws.MinMax.{min-le-left}
 use borrow.Author.Needs.{needs}
-use Rattle.tree.specs.Inner.SinkSplits.{LargestAt, worstIfSplit}
-use Rattle.tree.proofs.Laws.Lists.Largest.{largest-start, largest-more, largest-rest}
-use Rattle.tree.proofs.kraft.roomiest_sink.Statement.{statement}
-use Rattle.tree.proofs.kraft.roomiest_sink.Tie as tie
+use Rattle.judging.specs.Inner.SinkSplits.{LargestAt, worstIfSplit}
+use Rattle.judging.proofs.Laws.Largest.{largest-start, largest-more, largest-rest}
+use Rattle.judging.proofs.kraft.roomiest_sink.Statement.{statement}
+use Rattle.judging.proofs.kraft.roomiest_sink.Tie as tie
 
 abbrev Inv-loop : tie.InvT-loop
 Inv-loop n slacks worst branch best₀ u₀ best u =

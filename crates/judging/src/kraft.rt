@@ -7,21 +7,21 @@ ghost use lib.IntN.{pos, _+ℤ_, _-ℤ_};
 ghost use lib.Signed.{ltZ};
 ghost use Rattle.quantities.specs.Ranges.{Within};
 ghost use Rattle.quantities.specs.Inner.Reach.{termReach, timeReach};
 ghost use Rattle.tree.specs.Net.{Net, ownSlacks};
 ghost use Rattle.tree.specs.Kraft.{IsKraftMaximum};
 ghost use Rattle.tree.specs.Inner.DerivedLimits.{ownSlackLimit};
 ghost use Rattle.tree.specs.Inner.Arrays.{netOf, HoldsNet};
 ghost use Rattle.tree.specs.SmallestSlack.{sinksIn};
-ghost use Rattle.tree.specs.Inner.SinkSplits.{SinksReady, Kept, LargestAt, absentLimit, absent, worstIfSplit};
-use crate::header::Header;
-use crate::limits::BRANCH_LIMIT;
-use crate::limits::POSITION_LIMIT;
-use crate::limits::REQUIRED_LIMIT;
-use crate::limits::SINK_LIMIT;
-use crate::limits::WIRE_FACTOR_LIMIT;
-use crate::order::order_sinks;
-use crate::order::own_slacks;
+ghost use Rattle.judging.specs.Inner.SinkSplits.{SinksReady, Kept, LargestAt, absentLimit, absent, worstIfSplit};
 use quantities::time::Time;
+use tree::header::Header;
+use tree::limits::BRANCH_LIMIT;
+use tree::limits::POSITION_LIMIT;
+use tree::limits::REQUIRED_LIMIT;
+use tree::limits::SINK_LIMIT;
+use tree::limits::WIRE_FACTOR_LIMIT;
+use tree::order::order_sinks;
+use tree::order::own_slacks;
 
 // What the worst slack becomes if the edge above sink u is split. The new sink is never worse off than u: its own slack is no less.
 fn worst_if_split(slacks: &[i64], worst: Time, branch: Time, u: usize) -> Time

@@ -4,11 +4,11 @@ use mathlib.Core.Path.{refl}
 use native.Mathlib.Omega.{arith}
 use borrow.Author.Needs.{needs}
 use lib.ListN.{getD}
 use Rattle.tree.proofs.Laws.Arrays.ReadyNet.{branch-within, branch-reach, own-slack-within}
-use Rattle.tree.proofs.Laws.Kraft.SinkSplits.{place-reach}
-use Rattle.tree.proofs.Laws.Kraft.SinkArrays.{sink-in, place-within, next-kept}
-use Rattle.tree.proofs.kraft.next_worst.Statement.{statement}
-use Rattle.tree.proofs.kraft.next_worst.Tie as tie
+use Rattle.judging.proofs.Laws.SinkSplits.{place-reach}
+use Rattle.judging.proofs.Laws.SinkArrays.{sink-in, place-within, next-kept}
+use Rattle.judging.proofs.kraft.next_worst.Statement.{statement}
+use Rattle.judging.proofs.kraft.next_worst.Tie as tie
 
 roomiest-sink-requires : tie.Need-roomiest-sink-requires
 roomiest-sink-requires c κs =

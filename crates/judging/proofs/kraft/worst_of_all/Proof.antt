@@ -7,12 +7,12 @@ use lib.ListN.{length, getD, set, length-set}
 use lib.IntN.{pos}
 use mir.Facts.{toZ-ofZ}
 use Rattle.quantities.specs.Inner.Linear.{fit, rd}
 use Rattle.tree.specs.Net.{Net}
 use Rattle.tree.specs.SmallestSlack.{sinksIn}
-use Rattle.tree.specs.Inner.SinkSplits.{SinksReady, Kept}
-use Rattle.tree.proofs.Laws.Kraft.SinkArrays.{some-sink, sink-in, first-kept, worst-maximum}
-use Rattle.tree.proofs.kraft.worst_of_all.Statement.{statement}
-use Rattle.tree.proofs.kraft.worst_of_all.Tie as tie
+use Rattle.judging.specs.Inner.SinkSplits.{SinksReady, Kept}
+use Rattle.judging.proofs.Laws.SinkArrays.{some-sink, sink-in, first-kept, worst-maximum}
+use Rattle.judging.proofs.kraft.worst_of_all.Statement.{statement}
+use Rattle.judging.proofs.kraft.worst_of_all.Tie as tie
 
 abbrev Inv-loop : tie.InvT-loop
 Inv-loop n own sinks slacks₀ branch first worst₀ k₀ slacks worst k =

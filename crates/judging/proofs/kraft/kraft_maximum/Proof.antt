@@ -1,13 +1,13 @@
 -- The Kraft maximum of a net: the own slacks and the order are the net's, so the worst slack with all sinks in is its maximum. No loop.
 use native.Mathlib.Omega.{arith}
 use borrow.Author.Needs.{needs}
 use Rattle.tree.specs.Net.{Net}
 use Rattle.tree.specs.Inner.Arrays.{netOf}
-use Rattle.tree.specs.Inner.SinkSplits.{SinksReady}
+use Rattle.judging.specs.Inner.SinkSplits.{SinksReady}
 use Rattle.tree.proofs.Laws.Arrays.NetAndTree.{size-is}
-use Rattle.tree.proofs.Laws.Kraft.SinkArrays.{some-held, sorted}
-use Rattle.tree.proofs.kraft.kraft_maximum.Statement.{statement}
-use Rattle.tree.proofs.kraft.kraft_maximum.Tie as tie
+use Rattle.judging.proofs.Laws.SinkArrays.{some-held, sorted}
+use Rattle.judging.proofs.kraft.kraft_maximum.Statement.{statement}
+use Rattle.judging.proofs.kraft.kraft_maximum.Tie as tie
 
 own-slacks-requires : tie.Need-own-slacks-requires
 own-slacks-requires c κs = search needs

@@ -1,0 +1,4 @@
+-- The Kraft maximum, found sink by sink.
+pub mod Largest
+pub mod SinkSplits
+pub mod SinkArrays
