@@ -162,18 +162,33 @@ fn show_ranges() {
         b"root=0,0\nbranch=1000000000\nwire=2,2\nneed=2000000000000000\nsinks=1\nsink=0,0,1000000000000000\n",
     );
     // One past them: 3.
+    show(b"root=0,0\nbranch=0\nwire=2,2\nneed=0\nsinks=1\nsink=0,0,0\n");
     show(b"root=0,0\nbranch=1000000001\nwire=2,2\nneed=0\nsinks=1\nsink=0,0,0\n");
     show(b"root=0,0\nbranch=20\nwire=2,2\nneed=-2000000000000001\nsinks=1\nsink=0,0,0\n");
+    show(b"root=0,0\nbranch=20\nwire=2,2\nneed=2000000000000001\nsinks=1\nsink=0,0,0\n");
+    show(b"root=0,0\nbranch=20\nwire=2,2\nneed=0\nsinks=1\nsink=0,0,-1000000000000001\n");
     show(b"root=0,0\nbranch=20\nwire=2,2\nneed=0\nsinks=1\nsink=0,0,1000000000000001\n");
     // A's listing with W and L at their ends: 11, 12; one past them: 3.
     judge_a(
         b"slack=-4000000000000000\nwire=32\nsinks=3\nleaf=1,5\nleaf=2,5\nleaf=3,4\nnode=4,0,4,0\nnode=5,4,4,0\n",
     );
     judge_a(
+        b"slack=4000000000000000\nwire=32\nsinks=3\nleaf=1,5\nleaf=2,5\nleaf=3,4\nnode=4,0,4,0\nnode=5,4,4,0\n",
+    );
+    judge_a(
         b"slack=-4000000000000001\nwire=32\nsinks=3\nleaf=1,5\nleaf=2,5\nleaf=3,4\nnode=4,0,4,0\nnode=5,4,4,0\n",
     );
     judge_a(
+        b"slack=4000000000000001\nwire=32\nsinks=3\nleaf=1,5\nleaf=2,5\nleaf=3,4\nnode=4,0,4,0\nnode=5,4,4,0\n",
+    );
+    judge_a(
+        b"slack=0\nwire=0\nsinks=3\nleaf=1,5\nleaf=2,5\nleaf=3,4\nnode=4,0,4,0\nnode=5,4,4,0\n",
+    );
+    judge_a(
         b"slack=0\nwire=1000000000000\nsinks=3\nleaf=1,5\nleaf=2,5\nleaf=3,4\nnode=4,0,4,0\nnode=5,4,4,0\n",
+    );
+    judge_a(
+        b"slack=0\nwire=-1\nsinks=3\nleaf=1,5\nleaf=2,5\nleaf=3,4\nnode=4,0,4,0\nnode=5,4,4,0\n",
     );
     judge_a(
         b"slack=0\nwire=1000000000001\nsinks=3\nleaf=1,5\nleaf=2,5\nleaf=3,4\nnode=4,0,4,0\nnode=5,4,4,0\n",

@@ -129,16 +129,23 @@ pub record Marked : Type 0 where
   -- the same where |dx| and |dy| both count
   pub both-at-limit : InFormat (pinText "-10000000,5000000" "5000000,-20000000") (pinNet (tree.point (negℤ (pos 10_000_000)) (pos 5_000_000)) (tree.point (pos 5_000_000) (negℤ (pos 20_000_000))))
   pub both-past-limit : TurnedAway (pinText "-10000000,5000000" "5000000,-20000001") (FarPin 6)
-  -- "with c 1 to 1,000,000,000, the ends of t, a and W 1,000 times as far out, and L to 1,000,000,000,000": each end passes, one past it is 3
+  -- "with c 1 to 1,000,000,000, the ends of t, a and W 1,000 times as far out, and L to 1,000,000,000,000": each end is in range, where W and L are not A's: 11 and 12; one past it is 3
   pub low-ends : InFormat (rangeText "1" "-2000000000000000" "-1000000000000000") (rangeNet 1 (negℤ (pos 2_000_000_000_000_000)) (negℤ (pos 1_000_000_000_000_000)))
   pub high-ends : InFormat (rangeText "1000000000" "2000000000000000" "1000000000000000") (rangeNet 1_000_000_000 (pos 2_000_000_000_000_000) (pos 1_000_000_000_000_000))
-  pub branch-past : TurnedAway (rangeText "1000000001" "0" "0") (OutOfRange InNet 2)
-  pub need-past : TurnedAway (rangeText "20" "-2000000000000001" "0") (OutOfRange InNet 4)
-  pub required-past : TurnedAway (rangeText "20" "0" "1000000000000001") (OutOfRange InNet 6)
-  pub slack-end : judgeOf textA (statedA "-4000000000000000" "32") ≡ refused OtherSlack
-  pub slack-past : judgeOf textA (statedA "-4000000000000001" "32") ≡ refused (OutOfRange InListing 1)
-  pub wire-end : judgeOf textA (statedA "0" "1000000000000") ≡ refused OtherWire
-  pub wire-past : judgeOf textA (statedA "0" "1000000000001") ≡ refused (OutOfRange InListing 2)
+  pub branch-below : TurnedAway (rangeText "0" "0" "0") (OutOfRange InNet 2)
+  pub branch-above : TurnedAway (rangeText "1000000001" "0" "0") (OutOfRange InNet 2)
+  pub need-below : TurnedAway (rangeText "20" "-2000000000000001" "0") (OutOfRange InNet 4)
+  pub need-above : TurnedAway (rangeText "20" "2000000000000001" "0") (OutOfRange InNet 4)
+  pub required-below : TurnedAway (rangeText "20" "0" "-1000000000000001") (OutOfRange InNet 6)
+  pub required-above : TurnedAway (rangeText "20" "0" "1000000000000001") (OutOfRange InNet 6)
+  pub slack-least : judgeOf textA (statedA "-4000000000000000" "32") ≡ refused OtherSlack
+  pub slack-most : judgeOf textA (statedA "4000000000000000" "32") ≡ refused OtherSlack
+  pub slack-below : judgeOf textA (statedA "-4000000000000001" "32") ≡ refused (OutOfRange InListing 1)
+  pub slack-above : judgeOf textA (statedA "4000000000000001" "32") ≡ refused (OutOfRange InListing 1)
+  pub wire-least : judgeOf textA (statedA "0" "0") ≡ refused OtherWire
+  pub wire-most : judgeOf textA (statedA "0" "1000000000000") ≡ refused OtherWire
+  pub wire-below : judgeOf textA (statedA "0" "-1") ≡ refused (OutOfRange InListing 2)
+  pub wire-above : judgeOf textA (statedA "0" "1000000000001") ≡ refused (OutOfRange InListing 2)
   -- 02, request 4: two factors, the whole listing, and that judge reads it back; then the listings of either factor alone
   pub metals-format : InFormat (metalsText "2,6") (tree.twoMetals 2 6)
   pub metals-plan : (room : ℕ) → length listingMetals ≤ room → planOf (metalsText "2,6") room ≡ value (record { slack = pos 30; wire = 26; bytes = listingMetals })
