@@ -161,8 +161,7 @@ fn show_ranges() {
     show(
         b"root=0,0\nbranch=1000000000\nwire=2,2\nneed=2000000000000000\nsinks=1\nsink=0,0,1000000000000000\n",
     );
-    // One past them: 3.
-    show(b"root=0,0\nbranch=0\nwire=2,2\nneed=0\nsinks=1\nsink=0,0,0\n");
+    // One past them: 3, as of `branch=0` above.
     show(b"root=0,0\nbranch=1000000001\nwire=2,2\nneed=0\nsinks=1\nsink=0,0,0\n");
     show(b"root=0,0\nbranch=20\nwire=2,2\nneed=-2000000000000001\nsinks=1\nsink=0,0,0\n");
     show(b"root=0,0\nbranch=20\nwire=2,2\nneed=2000000000000001\nsinks=1\nsink=0,0,0\n");

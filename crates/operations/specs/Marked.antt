@@ -129,10 +129,9 @@ pub record Marked : Type 0 where
   -- the same where |dx| and |dy| both count
   pub both-at-limit : InFormat (pinText "-10000000,5000000" "5000000,-20000000") (pinNet (tree.point (negℤ (pos 10_000_000)) (pos 5_000_000)) (tree.point (pos 5_000_000) (negℤ (pos 20_000_000))))
   pub both-past-limit : TurnedAway (pinText "-10000000,5000000" "5000000,-20000001") (FarPin 6)
-  -- "with c 1 to 1,000,000,000, the ends of t, a and W 1,000 times as far out, and L to 1,000,000,000,000": each end is in range, where W and L are not A's: 11 and 12; one past it is 3
+  -- "with c 1 to 1,000,000,000, the ends of t, a and W 1,000 times as far out, and L to 1,000,000,000,000": each end is in range, where W and L are not A's: 11 and 12; one past it is 3, of c also `branch-0`
   pub low-ends : InFormat (rangeText "1" "-2000000000000000" "-1000000000000000") (rangeNet 1 (negℤ (pos 2_000_000_000_000_000)) (negℤ (pos 1_000_000_000_000_000)))
   pub high-ends : InFormat (rangeText "1000000000" "2000000000000000" "1000000000000000") (rangeNet 1_000_000_000 (pos 2_000_000_000_000_000) (pos 1_000_000_000_000_000))
-  pub branch-below : TurnedAway (rangeText "0" "0" "0") (OutOfRange InNet 2)
   pub branch-above : TurnedAway (rangeText "1000000001" "0" "0") (OutOfRange InNet 2)
   pub need-below : TurnedAway (rangeText "20" "-2000000000000001" "0") (OutOfRange InNet 4)
   pub need-above : TurnedAway (rangeText "20" "2000000000000001" "0") (OutOfRange InNet 4)

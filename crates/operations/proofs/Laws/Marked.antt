@@ -1,6 +1,6 @@
 -- The marked nets and lines that speak of texts, by computation. Assumes nothing.
 use Prim.Native.Nat.{ℕ, _≤_}
-use mathlib.Core.Path.{_≡_, refl, ap, _∙_}
+use mathlib.Core.Path.{_≡_, refl, sym, ap, _∙_}
 use mathlib.Core.List.{List, [], _∷_}
 use native.Mathlib.Omega.{arith}
 use lib.ListN.{length}
@@ -35,9 +35,10 @@ use Rattle.formats.specs.Reading.Listings.{readListing}
 use Rattle.operations.specs.Accepting.{acceptTree}
 use Rattle.operations.specs.Answers.{planOf, planListing, planNet, judgement, judgeOf, Judgement}
 use Rattle.operations.specs.Marked.{textA, textA1, listingA, textThree, listingThree, textRootNearest, listingRootNearest, textNearerSink, listingNearerSink, pinText, metalsText, listingMetals, statedA, rangeText, TurnedAway, Marked}
+use Rattle.formats.proofs.Laws.Lines.Outcomes.{then-refused}
 use Rattle.formats.proofs.Laws.Nets.NetTexts.{net-sound}
 use Rattle.operations.proofs.Laws.Answers.{plan-refused, judge-refused, Ends, unreachable, short, written, ends}
-use Rattle.operations.proofs.Laws.Judging.{judge-read}
+use Rattle.operations.proofs.Laws.Judging.{judge-read, listing-turned}
 
 -- ---- what the texts are read as
 
@@ -73,12 +74,19 @@ judged-over net N r s G e = judge-read net N r s ∙ ap (λ o. andThen (andThen 
 judged : (s : List ℕ) (G : Listing) → readListing 3 s ≡ value G → judgeOf textA s ≡ judgedTree netA G
 judged s G e = judged-over textA netA read-A s G e
 
--- a listing of A that is refused as it is read
-listing-refused : (s : List ℕ) (e : Refusal) → readListing 3 s ≡ refused e → judgeOf textA s ≡ refused e
-listing-refused s e h = judge-read textA netA read-A s ∙ ap (λ o. andThen (andThen o (acceptTree netA)) (λ G. value (judgement (record { net = netA; listing = G })))) h
+-- a listing that is refused as it is read
+refused-over : (net : List ℕ) (N : Net) → readNet net ≡ value N → (s : List ℕ) (e : Refusal) → readListing (size N) s ≡ refused e → judgeOf net s ≡ refused e
+refused-over net N r s e h = judge-read net N r s ∙ then-refused _ (sym (listing-turned N (size N) s e refl h))
+
+stated-refused : (s : List ℕ) (e : Refusal) → readListing 3 s ≡ refused e → judgeOf textA s ≡ refused e
+stated-refused s e h = refused-over textA netA read-A s e h
 
 listed : ℤ → ℕ → List ℕ → Listing
 listed slack wire parents = record { slack = slack; wire = wire; tree = tree-of parents }
+
+-- A's tree, with any slack and wire stated of it
+abbrev listedA : ℤ → ℕ → Listing
+listedA slack wire = listed slack wire (5 ∷ (5 ∷ (4 ∷ (0 ∷ (4 ∷ [])))))
 
 -- ---- A and its plan
 
@@ -114,11 +122,11 @@ A-unreachable room = ap (λ o. andThen o (λ N. planNet N room)) read-A1
 
 A-judged : judgeOf textA listingA ≡ value (record { slack = pos 0; wire = 32; best = pos 0 })
 unfolding listed tree-of readListing numberThen rowIn begins lineIn field natural digitsValue lead worstSlack wireLength minℤ delay distance span kraftMaximum searchDown floorDiv
-A-judged = judged listingA (listed (pos 0) 32 (5 ∷ (5 ∷ (4 ∷ (0 ∷ (4 ∷ [])))))) refl
+A-judged = judged listingA (listedA (pos 0) 32) refl
 
 A1-judged : judgeOf textA1 listingA ≡ value (record { slack = pos 0; wire = 32; best = pos 0 })
 unfolding netA1 listed tree-of readListing numberThen rowIn begins lineIn field natural digitsValue lead worstSlack wireLength minℤ delay distance span kraftMaximum searchDown floorDiv
-A1-judged = judged-over textA1 netA1 read-A1 listingA (listed (pos 0) 32 (5 ∷ (5 ∷ (4 ∷ (0 ∷ (4 ∷ [])))))) refl
+A1-judged = judged-over textA1 netA1 read-A1 listingA (listedA (pos 0) 32) refl
 
 -- ---- three sinks at the root
 
@@ -194,8 +202,8 @@ marked = record {
   three-format = net-sound textThree threeAtRoot read-three;
   three-plan = three-planned;
   three-judge = three-judged;
-  A-slack = judged _ (listed (pos 1) 32 (5 ∷ (5 ∷ (4 ∷ (0 ∷ (4 ∷ [])))))) refl;
-  A-wire = judged _ (listed (pos 0) 31 (5 ∷ (5 ∷ (4 ∷ (0 ∷ (4 ∷ [])))))) refl;
+  A-slack = judged _ (listedA (pos 1) 32) refl;
+  A-wire = judged _ (listedA (pos 0) 31) refl;
   ring = judged _ (listed (pos 0) 32 (0 ∷ (4 ∷ (5 ∷ (5 ∷ (4 ∷ [])))))) refl;
   four-children = judged _ (listed (pos 0) 32 (4 ∷ (4 ∷ (4 ∷ (0 ∷ (4 ∷ [])))))) refl;
   root-format = net-sound textRootNearest rootNearest read-root;
@@ -221,20 +229,19 @@ marked = record {
   both-past-limit = turned-away (pinText "-10000000,5000000" "5000000,-20000001") (FarPin 6) refl;
   low-ends = net-sound (rangeText "1" "-2000000000000000" "-1000000000000000") _ refl;
   high-ends = net-sound (rangeText "1000000000" "2000000000000000" "1000000000000000") _ refl;
-  branch-below = turned-away (rangeText "0" "0" "0") (OutOfRange InNet 2) refl;
   branch-above = turned-away (rangeText "1000000001" "0" "0") (OutOfRange InNet 2) refl;
   need-below = turned-away (rangeText "20" "-2000000000000001" "0") (OutOfRange InNet 4) refl;
   need-above = turned-away (rangeText "20" "2000000000000001" "0") (OutOfRange InNet 4) refl;
   required-below = turned-away (rangeText "20" "0" "-1000000000000001") (OutOfRange InNet 6) refl;
   required-above = turned-away (rangeText "20" "0" "1000000000000001") (OutOfRange InNet 6) refl;
-  slack-least = judged _ (listed (negℤ (pos 4_000_000_000_000_000)) 32 (5 ∷ (5 ∷ (4 ∷ (0 ∷ (4 ∷ [])))))) refl;
-  slack-most = judged _ (listed (pos 4_000_000_000_000_000) 32 (5 ∷ (5 ∷ (4 ∷ (0 ∷ (4 ∷ [])))))) refl;
-  slack-below = listing-refused (statedA "-4000000000000001" "32") (OutOfRange InListing 1) refl;
-  slack-above = listing-refused (statedA "4000000000000001" "32") (OutOfRange InListing 1) refl;
-  wire-least = judged _ (listed (pos 0) 0 (5 ∷ (5 ∷ (4 ∷ (0 ∷ (4 ∷ [])))))) refl;
-  wire-most = judged _ (listed (pos 0) 1_000_000_000_000 (5 ∷ (5 ∷ (4 ∷ (0 ∷ (4 ∷ [])))))) refl;
-  wire-below = listing-refused (statedA "0" "-1") (OutOfRange InListing 2) refl;
-  wire-above = listing-refused (statedA "0" "1000000000001") (OutOfRange InListing 2) refl;
+  slack-least = judged _ (listedA (negℤ (pos 4_000_000_000_000_000)) 32) refl;
+  slack-most = judged _ (listedA (pos 4_000_000_000_000_000) 32) refl;
+  slack-below = stated-refused (statedA "-4000000000000001" "32") (OutOfRange InListing 1) refl;
+  slack-above = stated-refused (statedA "4000000000000001" "32") (OutOfRange InListing 1) refl;
+  wire-least = judged _ (listedA (pos 0) 0) refl;
+  wire-most = judged _ (listedA (pos 0) 1_000_000_000_000) refl;
+  wire-below = stated-refused (statedA "0" "-1") (OutOfRange InListing 2) refl;
+  wire-above = stated-refused (statedA "0" "1000000000001") (OutOfRange InListing 2) refl;
   metals-format = net-sound (metalsText "2,6") (twoMetals 2 6) read-metals;
   metals-plan = metals-planned;
   metals-judge = metals-judged;
