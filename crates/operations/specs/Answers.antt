@@ -7,6 +7,7 @@ use lib.Dec.{ltb}
 use lib.IntN.{ℤ, pos}
 use lib.Signed.{ltZ}
 use Rattle.tree.specs.Net.{Net, size, ownSlacks}
+use Rattle.tree.specs.Tree.{Tree}
 use Rattle.tree.specs.Measures.{worstSlack, wireLength}
 use Rattle.tree.specs.Kraft.{kraftMaximum}
 use Rattle.tree.specs.Settling.{plan}
@@ -29,9 +30,13 @@ pub record Written : Type 0 where
   pub wire : ℕ
   pub bytes : List ℕ
 
--- the planned tree, with its true slack and wire, and its listing: 01's planning
+-- a tree with its true slack and wire
+abbrev pub stated : Net → Tree → Listing
+stated N T = record { slack = worstSlack N T; wire = wireLength N T; tree = T }
+
+-- the planned tree, and its listing: 01's planning
 abbrev pub planned : Net → Listing
-planned N = record { slack = worstSlack N (plan N); wire = wireLength N (plan N); tree = plan N }
+planned N = stated N (plan N)
 
 unfoldable pub planListing : Net → List ℕ
 planListing N = listingText (size N) (planned N)

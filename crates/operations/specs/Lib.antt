@@ -3,6 +3,7 @@ pub mod Accepting
 pub mod Answers
 pub mod Refusing
 pub mod Demands
+pub mod TreePlans
 pub mod FarPins
 pub mod TwoFactors
 pub mod Marked

@@ -5,5 +5,6 @@ pub mod Distance
 pub mod Delay
 pub mod Median
 pub mod Ranges
+pub mod Box
 -- What serves the contracts of inner functions, and proofs. Nothing of it need be believed.
 pub mod Inner

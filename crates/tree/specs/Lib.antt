@@ -7,6 +7,7 @@ pub mod Kraft
 pub mod Planning
 pub mod Settling
 pub mod Theorem1
+pub mod SpanningTrees
 pub mod SmallestSlack
 pub mod Defects
 pub mod Limits

@@ -18,7 +18,7 @@ use crate::upward::write_out;
 use quantities::time::Time;
 
 // Splits the edge above v: branch point b takes its place, and v and sink s hang on b.
-fn split_edge(parents: &mut [usize], b: usize, v: usize, s: usize)
+pub fn split_edge(parents: &mut [usize], b: usize, v: usize, s: usize)
     requires { ⌜ (b < length (now parents)) × (v < length (now parents)) × (s < length (now parents)) ⌝ }
     ensures { λ r. ⌜ now (parents .exit) ≡ set (set (set (now (parents .entry)) b (getD (now (parents .entry)) v 0)) v b) s b ⌝ }
 {

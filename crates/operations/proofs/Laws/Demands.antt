@@ -62,7 +62,7 @@ bytes-fit net room = go (readNet net)
     go (refused e) = omega arith
 
 -- the faults of a net text are told by 1 to 4 and by 13
-of-net-text : (e : Refusal) → NetRefusal e → OfNetText e
+pub of-net-text : (e : Refusal) → NetRefusal e → OfNetText e
 of-net-text e NetRefusal.too-long = (refl, λ q. omega arith)
 of-net-text e (NetRefusal.not-due p q) = (refl, λ q. omega arith)
 of-net-text e (NetRefusal.out-of-range p q) = (refl, λ q. omega arith)
@@ -94,7 +94,7 @@ demand-1 net listing out =
 -- ---- the second demand
 
 -- the listing's own judgement
-abbrev judged : Net → Listing → Judgement
+abbrev pub judged : Net → Listing → Judgement
 judged N G = judgement (record { net = N; listing = G })
 
 module _ (N : Net) (listing : List ℕ) (G : Listing) (F : ListingInFormat (size N) listing G) where
@@ -137,7 +137,7 @@ module _ (net : List ℕ) (N : Net) (F : InFormat net N) (listing : List ℕ) wh
       go (refused e) r w = never j e (sym w)
 
   -- and what is accepted
-  judge-true : (G : Listing) → ListingInFormat (size N) listing G → LegalAndTrue N G → judgeOf net listing ≡ value (judged N G)
+  pub judge-true : (G : Listing) → ListingInFormat (size N) listing G → LegalAndTrue N G → judgeOf net listing ≡ value (judged N G)
   judge-true G f t = to-listing ∙ ap (λ o. andThen o (λ G. value (judged N G))) (true-accepted N listing G f t)
 
   accepts : Accepts net listing ↔ ((G : Listing) × (ListingInFormat (size N) listing G × LegalAndTrue N G))

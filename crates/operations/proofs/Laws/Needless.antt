@@ -47,11 +47,11 @@ module _ (t : ℤ) (N : Net) where
       go zero = refl
       go (suc s) = refl
 
-  same-worst : worstSlack (withNeed t N) ≡ worstSlack N
+  pub same-worst : worstSlack (withNeed t N) ≡ worstSlack N
   unfolding worstSlack
   same-worst i T = least (map (λ s. same-required i s -ℤ pos (pathDelay N T s) -ℤ pos (N .branch * depth N T s)) (sinkNumbers (size N)))
 
-  same-wire : wireLength (withNeed t N) ≡ wireLength N
+  pub same-wire : wireLength (withNeed t N) ≡ wireLength N
   unfolding wireLength
   same-wire = refl
 

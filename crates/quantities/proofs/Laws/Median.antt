@@ -7,9 +7,9 @@ use lib.IntN.{ℤ}
 use lib.Signed.{_≤ℤ_}
 use Rattle.quantities.specs.declared.point.Point.{Point}
 use Rattle.quantities.specs.MinMax.{minℤ, maxℤ}
-use Rattle.quantities.specs.Distance.{span}
+use Rattle.quantities.specs.Distance.{span, distance}
 use Rattle.quantities.specs.Median.{median, medianPoint}
-use Rattle.quantities.specs.Inner.Box.{InBox}
+use Rattle.quantities.specs.Box.{InBox}
 use Rattle.quantities.specs.Inner.Linear.{up, dn, whole}
 use Rattle.quantities.proofs.Laws.MinMax.{min-is, max-is, total}
 use Rattle.quantities.proofs.Laws.Distance.{span-le, span-ge}
@@ -37,7 +37,7 @@ median-is a b c = record {
 }
 
 -- the median lies between the first two
-median-between : (a b c : ℤ) → ((a ≤ℤ median a b c) × (median a b c ≤ℤ b)) ⊎ ((b ≤ℤ median a b c) × (median a b c ≤ℤ a))
+pub median-between : (a b c : ℤ) → ((a ≤ℤ median a b c) × (median a b c ≤ℤ b)) ⊎ ((b ≤ℤ median a b c) × (median a b c ≤ℤ a))
 median-between a b c =
     ⊎-elim
     (λ h. inl (omega (arith, whole, median-is a b c)))
@@ -45,7 +45,7 @@ median-between a b c =
     (total a b)
 
 -- the median lies in every range that the three lie in
-median-in-range : (low high a b c : ℤ) → (low ≤ℤ a) × (a ≤ℤ high) → (low ≤ℤ b) × (b ≤ℤ high) → (low ≤ℤ c) × (c ≤ℤ high) → (low ≤ℤ median a b c) × (median a b c ≤ℤ high)
+pub median-in-range : (low high a b c : ℤ) → (low ≤ℤ a) × (a ≤ℤ high) → (low ≤ℤ b) × (b ≤ℤ high) → (low ≤ℤ c) × (c ≤ℤ high) → (low ≤ℤ median a b c) × (median a b c ≤ℤ high)
 median-in-range low high a b c f g h = omega (arith, whole, median-is a b c)
 
 -- |a - m| + |m - b| = |a - b| for the median m of a, b and a third
@@ -55,6 +55,10 @@ span-through-median a b c =
     (λ h. let k : a ≤ℤ b = omega (arith, whole) in omega (arith, span-le (h .0), span-le (h .1), span-le k))
     (λ h. let k : b ≤ℤ a = omega (arith, whole) in omega (arith, span-ge (h .0), span-ge (h .1), span-ge k))
     (median-between a b c)
+
+pub distance-through-median : (p q r : Point) → distance p (medianPoint p q r) + distance (medianPoint p q r) q ≡ distance p q
+unfolding distance medianPoint
+distance-through-median p q r = omega (arith, span-through-median (p .x) (q .x) (r .x), span-through-median (p .y) (q .y) (r .y))
 
 -- the median lies in every box that the three lie in
 pub median-in-box : (low high p q r : Point) → InBox low high p → InBox low high q → InBox low high r → InBox low high (medianPoint p q r)

@@ -10,12 +10,12 @@ use lib.IntN.{ℤ, pos, negℤ, _-ℤ_}
 use Rattle.quantities.specs.declared.point.Point.{Point}
 use Rattle.quantities.specs.Inner.Linear.{whole}
 use Rattle.quantities.specs.Ranges.{Within, PointWithin}
-use Rattle.quantities.specs.Inner.Box.{InBox}
+use Rattle.quantities.specs.Box.{InBox}
 use Rattle.quantities.proofs.Laws.Distance.{distance-within}
 use Rattle.quantities.proofs.Laws.Median.{median-in-box}
 use Rattle.tree.specs.Lists.{sumOver, count, range}
 use Rattle.tree.specs.Net.{Net, size, sinkAt, ownSlack}
-use Rattle.tree.specs.Tree.{Tree, parentOf, Legal, place}
+use Rattle.tree.specs.Tree.{Tree, parentOf, parent, Legal, LegalTree, place}
 use Rattle.tree.specs.Measures.{edgeLength, slack, worstSlack, wireLength}
 use Rattle.tree.specs.Planning.{TieRule, planParents}
 use Rattle.tree.specs.Settling.{children, settled, settledTree, planBy}
@@ -60,17 +60,37 @@ box-within : (k : ℕ) (p : Point) → InBox (corner (negℤ (pos k))) (corner (
 unfolding corner
 box-within k p h = (h .x, h .y)
 
-stands-within : (N : Net) → InRange N → (v : ℕ) → v ≤ size N → PointWithin positionLimit (sinkAt N v)
+pub stands-within : (N : Net) → InRange N → (v : ℕ) → v ≤ size N → PointWithin positionLimit (sinkAt N v)
 stands-within N R zero h = R .root
 stands-within N R (suc v) h = R .points (suc v) (omega arith) h
 
+-- what lies in every box that the root and the sinks lie in is in range
+pub boxed-within : (N : Net) → InRange N → (p : Point) → ((low high : Point) → ((v : ℕ) → v ≤ size N → InBox low high (sinkAt N v)) → InBox low high p) → PointWithin positionLimit p
+boxed-within N R p boxed = box-within positionLimit p (boxed _ _ (λ u l. within-box positionLimit _ (stands-within N R u l)))
+
 settled-within : (N : Net) → InRange N → (P : List ℕ) → Legal (size N) P → (v : ℕ) → v < 2 * size N → PointWithin positionLimit (place N (settledTree N P) v)
-settled-within N R P L v h =
-    box-within positionLimit _ (place-in-box N P _ _ (λ u l. within-box positionLimit _ (stands-within N R u l)) L v h)
+settled-within N R P L v h = boxed-within N R _ (λ low high stands. place-in-box N P low high stands L v h)
 
 sum-bound : (l : List ℕ) (f : ℕ → ℕ) (m : ℕ) → ((x : ℕ) → count x l ≢ 0 → f x ≤ m) → sumOver l f ≤ length l * m
 sum-bound [] f m h = zero-le
 sum-bound (x ∷ l) f m h = omega (arith, h x (omega (arith, delta-self x)), sum-bound l f m (λ y q. h y (omega arith)))
+
+-- the wire of any legal tree whose vertices are all in range
+pub legal-wire-range : (N : Net) → InRange N → (T : Tree) → LegalTree N T → ((v : ℕ) → v < 2 * size N → PointWithin positionLimit (place N T v)) → wireLength N T ≤ wireLimit
+unfolding wireLength
+legal-wire-range N R T L within =
+    let b : sumOver (range 1 (2 * size N - 1)) (edgeLength N T) ≤ length (range 1 (2 * size N - 1)) * (4 * positionLimit) =
+    sum-bound (range 1 (2 * size N - 1)) (edgeLength N T) (4 * positionLimit) each in
+    omega (arith, R .sinks, ap (λ n. n * (4 * positionLimit)) (range-length 1 (2 * size N - 1)))
+  where
+    below : (v : ℕ) → v < 2 * size N → parent T v < 2 * size N
+    below zero l = l
+    below (suc i) l = L .shape .inside i (omega (arith, L .shape .size))
+
+    each : (x : ℕ) → count x (range 1 (2 * size N - 1)) ≢ 0 → edgeLength N T x ≤ 4 * positionLimit
+    each x m =
+        let h : (1 ≤ x) × (x < 1 + (2 * size N - 1)) = range-in 1 (2 * size N - 1) x m in
+        distance-within positionLimit _ _ (within (parent T x) (below x (omega (arith, R .sinks)))) (within x (omega (arith, R .sinks)))
 
 module _ (tie : TieRule) (N : Net) (R : InRange N) where
   legal : Legal (size N) (planParents tie N)
@@ -83,21 +103,7 @@ module _ (tie : TieRule) (N : Net) (R : InRange N) where
 
   -- L is in its range
   pub wire-range : wireLength N (planBy tie N) ≤ wireLimit
-  unfolding wireLength planBy
-  wire-range =
-      let Q : Tree = settledTree N (planParents tie N) in
-      let b : sumOver (range 1 (2 * size N - 1)) (edgeLength N Q) ≤ length (range 1 (2 * size N - 1)) * (4 * positionLimit) =
-      sum-bound (range 1 (2 * size N - 1)) (edgeLength N Q) (4 * positionLimit) each in
-      omega (arith, R .sinks, ap (λ n. n * (4 * positionLimit)) (range-length 1 (2 * size N - 1)))
-    where
-      below : (v : ℕ) → v < 2 * size N → parentOf (planParents tie N) v < 2 * size N
-      below zero l = l
-      below (suc i) l = legal .inside i (omega (arith, legal .size))
-
-      each : (x : ℕ) → count x (range 1 (2 * size N - 1)) ≢ 0 → edgeLength N (settledTree N (planParents tie N)) x ≤ 4 * positionLimit
-      each x m =
-          let h : (1 ≤ x) × (x < 1 + (2 * size N - 1)) = range-in 1 (2 * size N - 1) x (omega arith) m in
-          distance-within positionLimit _ _ (plan-within (parentOf (planParents tie N) x) (below x (omega (arith, R .sinks)))) (plan-within x (omega (arith, R .sinks)))
+  wire-range = legal-wire-range N R (planBy tie N) (plan-legal N (R .branch .0) (R .sinks .0) tie) plan-within
 
   -- "The lowest t is always reachable", and W is in its range
   pub slack-range : Within needLimit (worstSlack N (planBy tie N))

@@ -94,7 +94,7 @@ closed S s c m f g a u e c1 once old new l under z zS mz fz = go (min-one (min�
 module _ {N : ℕ} {S : List ℕ} {k F : ℕ} {p p′ : ℕ → ℕ} {s x : ℕ} (t : PartTree N S k F p) (c : Split N k s x p p′)
     (hx : count x S + count x (down N k) ≢ 0) (s1 : 1 ≤ s) (sN : s ≤ N) (fresh : count s S ≡ 0) where
   -- x stands at most once on a way up
-  meet-once : (j y : ℕ) → meet p j x y ≤ 1
+  pub meet-once : (j y : ℕ) → meet p j x y ≤ 1
   meet-once zero y = zero-le
   meet-once (suc j) y = go (meet-once j (p y)) (equal? y x)
     where

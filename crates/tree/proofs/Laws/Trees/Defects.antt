@@ -8,11 +8,9 @@ use mathlib.Core.Option.{none, some}
 use native.Mathlib.Omega.{arith}
 use lib.ListN.{length, getD}
 use lib.Dec.{T, eqb, eqb→eq, eqb-refl}
-use Rattle.tree.proofs.Laws.Trees.LegalTrees.{sum-down}
-use Rattle.tree.proofs.Laws.Planning.BeforeSettling.{sumOver-range}
-use Rattle.tree.proofs.Laws.Lists.Sums.{sum, sum-cong, sum-split, sum-scale, sum-ones, sum-member, sum-places, regroup, equal?, delta-self, delta-ne, down-in, down-once}
+use Rattle.tree.proofs.Laws.Lists.Sums.{sum, sum-cong, sum-split, sum-scale, sum-ones, sum-member, sum-places, regroup, equal?, delta-self, delta-ne}
 use Rattle.tree.specs.Defects.{dueChildren, wrongChildren, unreached}
-use Rattle.tree.specs.Lists.{delta, count, down, range, firstWith}
+use Rattle.tree.specs.Lists.{delta, count, range, firstWith}
 use Rattle.tree.specs.Net.{branchNumbers}
 use Rattle.tree.specs.Tree.{parentOf, ancestor}
 
@@ -72,19 +70,21 @@ no-differs a b e = by (eqb a b) (subst (λ z. T (eqb a z)) e (eqb-refl a))
 
 -- ---- the numbers of a range, and of children
 
-pub range-in : (a n v : ℕ) → 1 ≤ a → count v (range a n) ≢ 0 → (a ≤ v) × (v < a + n)
-range-in zero n v h m = absurd (omega arith)
-range-in (suc a) n v h m = omega (arith, down-in a n v (omega (arith, sumOver-range (suc a) n (delta v), sum-down′ a n v)))
+pub range-in : (a n v : ℕ) → count v (range a n) ≢ 0 → (a ≤ v) × (v < a + n)
+range-in a zero v m = absurd (m refl)
+range-in a (suc n) v m = go (range-in (suc a) n v) (equal? v a)
   where
-    sum-down′ : (a n v : ℕ) → Rattle.tree.proofs.Laws.Lists.Sums.sum (suc a) n (delta v) ≡ count v (down a n)
-    sum-down′ a n v = let e : suc a ≡ 1 + a = omega arith in rw e (sum-down a n (delta v))
+    go : (count v (range (suc a) n) ≢ 0 → (suc a ≤ v) × (v < suc a + n)) → (v ≡ a) ⊎ (v ≢ a) → (a ≤ v) × (v < a + suc n)
+    go rest (inl e) = omega arith
+    go rest (inr d) = let r : (suc a ≤ v) × (v < suc a + n) = rest (omega (arith, delta-ne v a d)) in omega arith
 
-pub in-range : (a n v : ℕ) → 1 ≤ a → a ≤ v → v < a + n → count v (range a n) ≢ 0
-in-range zero n v h p q = absurd (omega arith)
-in-range (suc a) n v h p q = omega (arith, sumOver-range (suc a) n (delta v), sum-down′ a n v, down-once a n v p (omega arith))
+pub in-range : (a n v : ℕ) → a ≤ v → v < a + n → count v (range a n) ≢ 0
+in-range a zero v h l = absurd (omega arith)
+in-range a (suc n) v h l = go (in-range (suc a) n v) (equal? v a)
   where
-    sum-down′ : (a n v : ℕ) → Rattle.tree.proofs.Laws.Lists.Sums.sum (suc a) n (delta v) ≡ count v (down a n)
-    sum-down′ a n v = let e : suc a ≡ 1 + a = omega arith in rw e (sum-down a n (delta v))
+    go : (suc a ≤ v → v < suc a + n → count v (range (suc a) n) ≢ 0) → (v ≡ a) ⊎ (v ≢ a) → delta v a + count v (range (suc a) n) ≢ 0
+    go rest (inl e) = omega (arith, ap (λ z. delta z a) e, delta-self a)
+    go rest (inr d) = omega (arith, rest (omega arith) (omega arith))
 
 -- what reading the listing has made sure of: 2n - 1 parents, each below 2n and none a sink
 pub record Read (n : ℕ) (P : List ℕ) : Type 0 where
@@ -103,7 +103,7 @@ module _ (n : ℕ) (P : List ℕ) (w : wrongChildren n P ≡ none) where
 
   pub branch-two : (b : ℕ) → n < b → b < 2 * n → count b P ≡ 2
   branch-two zero l h = absurd (omega arith)
-  branch-two (suc b) l h = differs-no (count (suc b) P) 2 (counts (suc b) (omega (arith, in-range (suc n) (n - 1) (suc b) (omega arith) l (omega arith))))
+  branch-two (suc b) l h = differs-no (count (suc b) P) 2 (counts (suc b) (omega (arith, in-range (suc n) (n - 1) (suc b) l (omega arith))))
 
   -- then none is left for the sinks
   pub sink-none : suc (length P) ≡ 2 * n → ((i : ℕ) → i < length P → getD P i 0 < 2 * n) → (s : ℕ) → 1 ≤ s → s ≤ n → count s P ≡ 0

@@ -312,7 +312,7 @@ module _ {n : ℕ} {ps queue : List ℕ} {end : ℕ} (D : Descended n ps queue e
       where
         each : (v : ℕ) → count v (range 1 (2 * n - 1)) ≢ 0 → not (eqb (ancestor p (2 * n - 1) v) 0) ≡ false
         each v m =
-            let r = range-in 1 (2 * n - 1) v (omega arith) m in
+            let r = range-in 1 (2 * n - 1) v m in
             no-differs (ancestor p (2 * n - 1) v) 0 (queued-reached v (all-in full v (r .0, omega (arith, r .1))))
 
     pub descent-order : end ≡ 2 * n - 1 → 2 * n - 1 ≤ length queue → RootDown n ps queue
@@ -349,7 +349,7 @@ module _ {n : ℕ} {ps queue : List ℕ} {end : ℕ} (D : Descended n ps queue e
           every x a l = M .in-queue x (omega arith) marked
             where
               z : eqb (getD marks x 0) 0 ≡ false
-              z = first-none (λ v. eqb (getD marks v 0) 0) (range 1 (2 * n - 1)) e x (in-range 1 (2 * n - 1) x (omega arith) a (omega arith))
+              z = first-none (λ v. eqb (getD marks v 0) 0) (range 1 (2 * n - 1)) e x (in-range 1 (2 * n - 1) x a (omega arith))
 
               marked : getD marks x 0 ≢ 0
               marked q = let f : true ≡ false = sym (eq-eqb (getD marks x 0) 0 q) ∙ z in let o : _≡_ {A = ℕ} 0 1 = cc in omega arith

@@ -89,7 +89,7 @@ module _ (n : ℕ) (P S : List ℕ) (size : suc (length P) ≡ 2 * n) (all : (s 
       go (inr d) = absurd (omega (arith, t .low 0 d))
   all-low (suc v) p = omega (arith, all (suc v) (omega arith) (omega arith), down-once 0 n (suc v) (omega arith) (omega arith))
 
-  sinks-sum : (f : ℕ → ℕ) → sumOver (down 0 n) f ≡ sumOver S f
+  pub sinks-sum : (f : ℕ → ℕ) → sumOver (down 0 n) f ≡ sumOver S f
   sinks-sum f = bag (suc n) (down 0 n) S f (λ x h. omega (arith, down-in 0 n x h)) (λ x h. omega (arith, t .low x h)) all-low
 
   part-counts : (u : ℕ) → count u P ≡ delta u 0 + 2 * count u (down n (n - 1))

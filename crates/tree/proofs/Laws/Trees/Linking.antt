@@ -141,12 +141,12 @@ module _ {n : ℕ} {ps first second : List ℕ} (L : Linked n ps first second) w
   unfolding kids
   child b i h =
       let r = children-are (λ u. getD ps u 0) b (range 1 (2 * n - 1)) i (omega (arith, kids-length b)) in
-      let w = range-in 1 (2 * n - 1) (getD (childrenFrom n ps 1 b) i 0) (omega arith) (r .1) in
+      let w = range-in 1 (2 * n - 1) (getD (childrenFrom n ps 1 b) i 0) (r .1) in
       ((omega arith, omega arith), r .0)
 
   in-kids : (v : ℕ) → UnderRoot n v → count v (kids (getD ps v 0)) ≢ 0
   unfolding kids
-  in-kids v h = children-all (λ u. getD ps u 0) (getD ps v 0) (range 1 (2 * n - 1)) v (in-range 1 (2 * n - 1) v (omega arith) (h .0) (omega arith)) refl
+  in-kids v h = children-all (λ u. getD ps u 0) (getD ps v 0) (range 1 (2 * n - 1)) v (in-range 1 (2 * n - 1) v (h .0) (omega arith)) refl
 
   kids-once : (b x : ℕ) → count x (kids b) ≤ 1
   unfolding kids

@@ -40,7 +40,7 @@ module _ (n : ℕ) (P : List ℕ) where
       counts : (v : ℕ) → count v (0 ∷ branchNumbers n) ≢ 0 → not (eqb (count v P) (dueChildren v)) ≡ false
       counts zero m = no-differs (count 0 P) 1 (R .root)
       counts (suc v) m =
-          let r : (suc n ≤ suc v) × (suc v < suc n + (n - 1)) = range-in (suc n) (n - 1) (suc v) (omega arith) (omega arith) in
+          let r : (suc n ≤ suc v) × (suc v < suc n + (n - 1)) = range-in (suc n) (n - 1) (suc v) (omega arith) in
           no-differs (count (suc v) P) 2 (R .branch (suc v) (omega arith) (omega arith))
 
   wrong-if : (v : ℕ) → wrongChildren n P ≡ some v → WrongChildrenAt n P v
@@ -86,13 +86,13 @@ module _ (n : ℕ) (P : List ℕ) where
     reached-if e (suc v) h = (
       2 * n - 1,
       differs-no (ancestor (parentOf P) (2 * n - 1) (suc v)) 0
-          (first-none (λ v. not (eqb (ancestor (parentOf P) (2 * n - 1) v) 0)) (range 1 (2 * n - 1)) e (suc v) (in-range 1 (2 * n - 1) (suc v) (omega arith) (omega arith) (omega arith))),
+          (first-none (λ v. not (eqb (ancestor (parentOf P) (2 * n - 1) v) 0)) (range 1 (2 * n - 1)) e (suc v) (in-range 1 (2 * n - 1) (suc v) (omega arith) (omega arith))),
     )
 
     reached-only : ((v : ℕ) → v < 2 * n → Reached P v) → unreached n P ≡ none
     reached-only f =
         none-first (λ v. not (eqb (ancestor (parentOf P) (2 * n - 1) v) 0)) (range 1 (2 * n - 1)) λ v m.
-        let r : (1 ≤ v) × (v < 1 + (2 * n - 1)) = range-in 1 (2 * n - 1) v (omega arith) m in
+        let r : (1 ≤ v) × (v < 1 + (2 * n - 1)) = range-in 1 (2 * n - 1) v m in
         let h : v < 2 * n = omega (arith, R .some-sink) in
         no-differs (ancestor (parentOf P) (2 * n - 1) v) 0 (reached-within n P (R .size) (R .inside) v h (f v h))
 

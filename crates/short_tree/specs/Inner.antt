@@ -1,0 +1,3 @@
+-- What serves the contracts of inner functions, bottom first.
+pub mod Searching
+pub mod Arrays

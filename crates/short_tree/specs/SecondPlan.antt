@@ -1,0 +1,27 @@
+-- The second plan, of texts: what it answers for all bytes, and what 02's request 6 promises of it, in one statement.
+use Prim.Native.Nat.{ℕ, _≤_}
+use mathlib.Core.Path.{_≡_}
+use mathlib.Core.List.{List}
+use Rattle.tree.specs.Net.{Net, size, sinkAt}
+use Rattle.tree.specs.SpanningTrees.{Link, SpanningTree, linkWire, terminals}
+use Rattle.formats.specs.Outcome.{Outcome, value}
+use Rattle.formats.specs.NetText.{InFormat}
+use Rattle.operations.specs.Answers.{Written}
+use Rattle.operations.specs.TreePlans.{treePlanOf, treePlanOutput, TreePlan}
+use Rattle.short_tree.specs.ShortTree.{short}
+use Rattle.short_tree.specs.Theorem2.{Theorem2}
+
+-- plan_short, of the net's bytes and the length of the output; and the output after the call
+abbrev pub shortOf : List ℕ → ℕ → Outcome Written
+shortOf = treePlanOf short
+
+abbrev pub shortOutput : List ℕ → List ℕ → List ℕ
+shortOutput = treePlanOutput short
+
+pub record SecondPlan : Type 0 where
+  -- "It ignores need, so never gives 5"; "Its listing passes judge"; each refusal exactly for its fault; every byte of the output
+  pub plan : TreePlan short
+  -- the choice, the tree and "(Theorem 2)", for every net in the format
+  pub tree : (net : List ℕ) (N : Net) → InFormat net N → Theorem2 N
+  -- "and its wire is at most that of every spanning tree on the root and the sinks": the wire that is returned
+  pub shortest : (net : List ℕ) (N : Net) → InFormat net N → (room : ℕ) (w : Written) → treePlanOf short net room ≡ value w → (L : List Link) → SpanningTree (terminals (size N)) L → w .wire ≤ linkWire (sinkAt N) L
