@@ -1,4 +1,4 @@
--- What the two programs print: document 01, 'Marked nets and lines'. Definitions alone.
+-- What the programs print: document 01, 'Marked nets and lines'; the second plan's program prints as the first plan's does. Definitions alone.
 use Prim.Native.Nat.{ℕ}
 use mathlib.Core.Path.{_≡_}
 use mathlib.Core.List.{List, [], _∷_, _++_}
@@ -12,6 +12,7 @@ use Rattle.formats.specs.Outcome.{Outcome, value, refused}
 use Rattle.formats.specs.Refusals.{told}
 use Rattle.formats.specs.declared.refusal.Told.{Told}
 use Rattle.operations.specs.Answers.{Written, planOf, overwritten, Judgement, judgeOf}
+use Rattle.short_tree.specs.SecondPlan.{shortOf}
 use Rattle.console.specs.Words.{complaint}
 
 -- ---- on standard output
@@ -69,4 +70,5 @@ complaintRoom = 128
 -- no answer is a proper part of another, whatever the inputs and the outputs' lengths: what is cut short reads as no answer
 pub record OneAnswer : Type 0 where
   pub plan : (net net′ : List ℕ) (room room′ : ℕ) (r : List ℕ) → planPrinted (planOf net room) ≡ planPrinted (planOf net′ room′) ++ r → r ≡ []
+  pub plan-short : (net net′ : List ℕ) (room room′ : ℕ) (r : List ℕ) → planPrinted (shortOf net room) ≡ planPrinted (shortOf net′ room′) ++ r → r ≡ []
   pub judge : (net listing net′ listing′ : List ℕ) (r : List ℕ) → judgePrinted (judgeOf net listing) ≡ judgePrinted (judgeOf net′ listing′) ++ r → r ≡ []

@@ -1,28 +1,27 @@
-// The library for callers in C and Rust: plan and judge on lent bytes, each figure through a reference of its own.
+// The library for callers in C and Rust: the plans and judge on lent bytes, each figure through a reference of its own.
 ghost use mathlib.Core.Path.{_≡_};
 ghost use lib.ListN.{length};
 ghost use Rattle.operations.specs.Answers.{planOf, planOutput, planAnswer, planFigures, judgeOf, judgeAnswer, judgeFigures};
+ghost use Rattle.short_tree.specs.SecondPlan.{shortOf, shortOutput};
 use first_plan::plan::plan;
 use formats::refusal::tell;
 use judging::judge::judge;
 use operations::answers::JudgeAnswer;
 use operations::answers::PlanAnswer;
+use short_tree::plan_short::plan_short;
 
-// Plans a net. The number of the refusal is returned, 0 where nothing is refused.
-#[no_mangle]
-pub extern "C" fn repeater_tree_plan(
-    net: &[u8],
-    out: &mut [u8],
+// The figures of what a plan answers, each through its reference. The number of the refusal is returned, 0 where nothing is refused.
+fn give(
+    answer: PlanAnswer,
     text: &mut u8,
     line: &mut usize,
     slack: &mut i64,
     wire: &mut u64,
     bytes: &mut usize,
 ) -> u8
-    ensures figures { λ r. ⌜ (record { number = r; text = now (text .exit); line = now (line .exit); slack = now (slack .exit); wire = now (wire .exit); bytes = now (bytes .exit) }) ≡ planFigures (planAnswer (planOf (now (net .entry)) (length (now (out .entry))))) ⌝ }
-    ensures output { λ r. ⌜ now (out .exit) ≡ planOutput (now (net .entry)) (now (out .entry)) ⌝ }
+    ensures { λ r. ⌜ (record { number = r; text = now (text .exit); line = now (line .exit); slack = now (slack .exit); wire = now (wire .exit); bytes = now (bytes .exit) }) ≡ planFigures answer ⌝ }
 {
-    match plan(net, out) {
+    match answer {
         PlanAnswer::Planned {
             slack: worst,
             wire: total,
@@ -45,6 +44,42 @@ pub extern "C" fn repeater_tree_plan(
             told.number
         }
     }
+}
+
+// Plans a net.
+#[no_mangle]
+pub extern "C" fn repeater_tree_plan(
+    net: &[u8],
+    out: &mut [u8],
+    text: &mut u8,
+    line: &mut usize,
+    slack: &mut i64,
+    wire: &mut u64,
+    bytes: &mut usize,
+) -> u8
+    ensures figures { λ r. ⌜ (record { number = r; text = now (text .exit); line = now (line .exit); slack = now (slack .exit); wire = now (wire .exit); bytes = now (bytes .exit) }) ≡ planFigures (planAnswer (planOf (now (net .entry)) (length (now (out .entry))))) ⌝ }
+    ensures output { λ r. ⌜ now (out .exit) ≡ planOutput (now (net .entry)) (now (out .entry)) ⌝ }
+{
+    let answer = plan(net, out);
+    give(answer, text, line, slack, wire, bytes)
+}
+
+// Plans the short tree of a net.
+#[no_mangle]
+pub extern "C" fn repeater_tree_plan_short(
+    net: &[u8],
+    out: &mut [u8],
+    text: &mut u8,
+    line: &mut usize,
+    slack: &mut i64,
+    wire: &mut u64,
+    bytes: &mut usize,
+) -> u8
+    ensures figures { λ r. ⌜ (record { number = r; text = now (text .exit); line = now (line .exit); slack = now (slack .exit); wire = now (wire .exit); bytes = now (bytes .exit) }) ≡ planFigures (planAnswer (shortOf (now (net .entry)) (length (now (out .entry))))) ⌝ }
+    ensures output { λ r. ⌜ now (out .exit) ≡ shortOutput (now (net .entry)) (now (out .entry)) ⌝ }
+{
+    let answer = plan_short(net, out);
+    give(answer, text, line, slack, wire, bytes)
 }
 
 // Judges a listing. The number of the refusal is returned, 0 where nothing is refused.

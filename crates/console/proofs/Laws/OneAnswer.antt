@@ -7,22 +7,30 @@ use native.Mathlib.Omega.{arith}
 use lib.ListN.{getD}
 use lib.IntN.{ℤ, pos}
 use Rattle.tree.specs.Net.{Net, size}
+use Rattle.tree.specs.Tree.{Tree}
 use Rattle.tree.specs.Limits.{InRange}
 use Rattle.formats.specs.Line.{lineText}
 use Rattle.formats.specs.Outcome.{Outcome, value, refused}
-use Rattle.formats.specs.NetText.{wireKey}
+use Rattle.formats.specs.NetText.{wireKey, InFormat}
+use Rattle.formats.specs.Faults.{NetFault}
 use Rattle.formats.specs.Reading.Nets.{readNet}
 use Rattle.formats.specs.ListingText.{Listing, slackKey, listingText, ListingInRange}
 use Rattle.formats.specs.Refusals.{told}
+use Rattle.formats.specs.declared.refusal.Refusal.{Refusal}
 use Rattle.formats.specs.declared.refusal.Refusal.the-variants.{Unreachable, TooShort}
 use Rattle.formats.specs.declared.refusal.Told.{Told}
 use Rattle.formats.proofs.Laws.Lines.OneLine.{line-one}
+use Rattle.formats.proofs.Laws.Lines.DueTexts.{never}
 use Rattle.formats.proofs.Laws.Lines.Outcomes.{then-value}
+use Rattle.formats.proofs.Laws.Faults.NetFaults.{net-answered}
 use Rattle.formats.proofs.Laws.Listings.OneText.{listing-prefix}
 use Rattle.formats.proofs.Laws.Nets.NetTexts.{net-sound}
-use Rattle.operations.specs.Answers.{planned, planListing, planNet, planOf, Judgement, judgeOf}
+use Rattle.operations.specs.Answers.{Written, stated, planned, planListing, planNet, planOf, Judgement, judgeOf}
+use Rattle.operations.specs.TreePlans.{treeListing, treePlanOf, TreePlanRefuses}
 use Rattle.operations.proofs.Laws.Answers.{plan-refused, Ends, unreachable, short, written, ends}
 use Rattle.operations.proofs.Laws.PlanListing.{plan-in-range}
+use Rattle.operations.proofs.Laws.TreePlans.{Makes, made-in-range, tree-plan}
+use Rattle.short_tree.proofs.Laws.SecondPlan.{short-makes}
 use Rattle.console.specs.Printing.{refusedKey, bestKey, refusalText, measuresText, planPrinted, judgePrinted, OneAnswer}
 
 -- ---- two texts of one kind
@@ -85,6 +93,18 @@ plan-text net room = go (readNet net) refl
     go (refused e) h = inr (told e, ap planPrinted (plan-refused net e h room))
     go (value N) h = net-planned N (net-sound net N h .in-range) (then-value _ h) (ends N room)
 
+-- and a plan that ignores need
+tree-text : (make : Net → Tree) → Makes make → (net : List ℕ) (room : ℕ) → PlanText (planPrinted (treePlanOf make net room))
+unfolding treeListing
+tree-text make M net room = go (treePlanOf make net room) refl (net-answered net .either)
+  where
+    go : (o : Outcome Written) → treePlanOf make net room ≡ o → ((N : Net) × InFormat net N) ⊎ ((e : Refusal) × NetFault net e) → PlanText (planPrinted (treePlanOf make net room))
+    go (refused e) h f = inr (told e, ap planPrinted h)
+    go (value w) h (inl (N, F)) =
+        let q = tree-plan make M .nets net N F .returned room w h in
+        inl (size N, stated N (make N), made-in-range make M N (size N) (stated N (make N)) refl refl (F .in-range), ap planPrinted h ∙ ap (λ w. w .bytes) q)
+    go (value w) h (inr (e, f)) = never w e (sym h ∙ tree-plan make M .refuses net room e .1 (TreePlanRefuses.in-net f))
+
 plan-one : (s t r : List ℕ) → PlanText s → PlanText t → s ≡ t ++ r → r ≡ []
 plan-one s t r (inl (n, G, g, p)) (inl (m, H, h, q)) e = listing-prefix n m G H r g h (sym p ∙ e ∙ ap (λ (l : List ℕ). l ++ r) q) .2
 plan-one s t r (inl (n, G, g, p)) (inr (u, q)) e = first-byte (refusalText u ++ r) (listingText n G ++ []) (sym (ap (λ (l : List ℕ). l ++ r) q) ∙ sym e ∙ p ∙ sym (append-nil (listingText n G))) refl (listing-first n G [])
@@ -102,5 +122,6 @@ judge-one (refused f) (refused g) r e = refusals-one (told f) (told g) r e
 pub one-answer : OneAnswer
 one-answer = record {
   plan = λ net net′ room room′ r. plan-one _ _ r (plan-text net room) (plan-text net′ room′);
+  plan-short = λ net net′ room room′ r. plan-one _ _ r (tree-text _ short-makes net room) (tree-text _ short-makes net′ room′);
   judge = λ net listing net′ listing′ r. judge-one (judgeOf net listing) (judgeOf net′ listing′) r;
 }
