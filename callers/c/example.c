@@ -1,5 +1,6 @@
 /* Plans a net of three sinks, judges the plan, does the same where a nanometre
- * upward costs more than one across, then asks for too much, hands over one wire
+ * upward costs more than one across and for a short tree, which does not look
+ * at need; then asks for too much, hands over one wire
  * factor for two, a pin too far from the root, and texts and an output of no
  * bytes.
  *
@@ -18,24 +19,38 @@
     "sink=10,0,100\nsink=4,6,60\nsink=" last "\n"
 #define NET(need) NET_WITH("2,2", need, "10,10,70")
 
+/* The calls that plan have one shape. */
+typedef uint8_t planner(const uint8_t *, size_t, uint8_t *, size_t,
+                        uint8_t *, size_t *, int64_t *, uint64_t *, size_t *);
+
 /* A net, and what is due for it. */
 struct due {
+    planner *plan;
     const char *net;
     int64_t slack;
     uint64_t wire;
+    int64_t best;
     const char *listing;
 };
 
 static const struct due one_metal = {
-    NET("0"), 0, 32,
+    repeater_tree_plan, NET("0"), 0, 32, 0,
     "slack=0\nwire=32\nsinks=3\nleaf=1,5\nleaf=2,5\nleaf=3,4\n"
     "node=4,0,4,0\nnode=5,4,4,0\n"};
 
 /* The same pins, later due, where upward costs three times as much. */
 static const struct due two_metals = {
+    repeater_tree_plan,
     "root=0,0\nbranch=20\nwire=2,6\nneed=0\nsinks=3\n"
-    "sink=10,0,100\nsink=4,6,110\nsink=10,10,150\n", 30, 26,
+    "sink=10,0,100\nsink=4,6,110\nsink=10,10,150\n", 30, 26, 30,
     "slack=30\nwire=26\nsinks=3\nleaf=1,5\nleaf=2,4\nleaf=3,5\n"
+    "node=4,0,4,0\nnode=5,4,10,0\n"};
+
+/* Less wire than the first plan of these pins has, and less slack; a need that
+ * no tree has is not looked at. */
+static const struct due short_tree = {
+    repeater_tree_plan_short, NET("1"), -10, 26, 0,
+    "slack=-10\nwire=26\nsinks=3\nleaf=1,5\nleaf=2,4\nleaf=3,5\n"
     "node=4,0,4,0\nnode=5,4,10,0\n"};
 
 static const uint8_t *bytes_of(const char *s) { return (const uint8_t *)s; }
@@ -50,8 +65,8 @@ static int plan(const struct due *due, uint8_t *out, size_t length, size_t *byte
     size_t line;
     int64_t slack;
     uint64_t wire;
-    uint8_t number = repeater_tree_plan(bytes_of(due->net), strlen(due->net), out, length,
-                                        &text, &line, &slack, &wire, bytes);
+    uint8_t number = due->plan(bytes_of(due->net), strlen(due->net), out, length,
+                               &text, &line, &slack, &wire, bytes);
     printf("plan: number=%u slack=%" PRId64 " wire=%" PRIu64 " bytes=%zu\n",
            (unsigned)number, slack, wire, *bytes);
     if (number != REPEATER_TREE_DONE || text != 0 || line != 0)
@@ -76,7 +91,7 @@ static int judge(const struct due *due, const uint8_t *listing, size_t length) {
            (unsigned)number, slack, wire, best);
     if (number != REPEATER_TREE_DONE || text != 0 || line != 0)
         return unexpected("the listing is refused");
-    if (slack != due->slack || wire != due->wire || best != due->slack)
+    if (slack != due->slack || wire != due->wire || best != due->best)
         return unexpected("the judge's figures");
     return 0;
 }
@@ -146,6 +161,8 @@ int main(void) {
         || judge(&one_metal, out, bytes)
         || plan(&two_metals, out, sizeof out, &bytes)
         || judge(&two_metals, out, bytes)
+        || plan(&short_tree, out, sizeof out, &bytes)
+        || judge(&short_tree, out, bytes)
         || plan_refused("need=1", too_much, strlen(too_much), out, sizeof out, unreachable)
         || plan_refused("wire=2", one, strlen(one), out, sizeof out, one_factor)
         || plan_refused("a far pin", far, strlen(far), out, sizeof out, far_pin)

@@ -1,6 +1,6 @@
-/* The repeater tree planner: two calls on text.
+/* The repeater tree planner: three calls on text.
  *
- * docs/FORMAT.md has the two texts, their ranges and the rules of the plan.
+ * docs/FORMAT.md has the two texts, their ranges and the rules of the two plans.
  * Positions and lengths are in nanometres (nm), times in attoseconds (as),
  * the two wire factors in as per nm, which is fs per um. A distance is
  * |dx| + |dy|. The net's line wire=h,v gives a factor for each metal direction,
@@ -30,7 +30,7 @@ extern "C" {
 /* While MAJOR is 0, another MINOR may change the texts, the answers or the
  * calls; another PATCH changes none of them. */
 #define REPEATER_TREE_VERSION_MAJOR 0
-#define REPEATER_TREE_VERSION_MINOR 6
+#define REPEATER_TREE_VERSION_MINOR 7
 #define REPEATER_TREE_VERSION_PATCH 0
 
 /* The longest texts that are read, in bytes. No listing that a plan writes
@@ -45,7 +45,7 @@ extern "C" {
  * and what the system keeps on a thread's stack, come on top. */
 #define REPEATER_TREE_STACK 81920
 
-/* The refusal's number, the result of both calls. Each says with which text
+/* The refusal's number, the result of every call. Each says with which text
  * (1 the net, 2 the listing, 0 neither) and line it comes; lines count from 1. */
 enum {
     /* Nothing is refused; text and line are 0. */
@@ -63,7 +63,8 @@ enum {
     /* plan: no legal tree has the worst slack that the net's need line asks
      * for. Text 1, line 4. */
     REPEATER_TREE_UNREACHABLE = 5,
-    /* plan: the output is shorter than the listing. Text 0, line 0. */
+    /* plan, plan_short: the output is shorter than the listing.
+     * Text 0, line 0. */
     REPEATER_TREE_SHORT_OUTPUT = 6,
     /* judge: the listing's number of sinks is not the net's. Text 2, line 3. */
     REPEATER_TREE_OTHER_SINKS = 7,
@@ -110,6 +111,32 @@ uint8_t repeater_tree_plan(const uint8_t *net, size_t net_length,
                            uint8_t *text, size_t *line,
                            int64_t *slack, uint64_t *wire, size_t *bytes);
 
+/* Plans a short tree for the net and writes its listing to out: one whose wire
+ * is at most that of every spanning tree of straight wires on the root and the
+ * sinks. The sink nearest to the root goes first (lowest number on a tie); then
+ * always the sink and the edge that add least wire, the new branch point
+ * standing at the median of the edge's ends and the sink; ties go to the lowest
+ * sink, then to the edge whose lower end has the lowest number. Branch points
+ * stay where they were made. The net's need is read but not looked at, so 5 is
+ * never told; the worst slack may be less than the best. The same net always
+ * gives the same bytes.
+ *
+ *   net, net_length   the net text
+ *   out, out_length   where the listing goes; bytes beyond it keep their values
+ *   text              the refusal's text, 0 to 1
+ *   line              the refusal's line, 0 to 518
+ *   slack             the tree's worst slack in as,
+ *                     -1,205,311,000,000,000 to 1,000,000,000,000,000
+ *   wire              the tree's wire in nm, 0 to 20,480,000,000
+ *   bytes             the listing's length, 0 to 32,768
+ *
+ * Every figure is written by every call. At a refusal (1 to 4, 6, 13) slack,
+ * wire and bytes are 0 and no byte of out is changed. */
+uint8_t repeater_tree_plan_short(const uint8_t *net, size_t net_length,
+                                 uint8_t *out, size_t out_length,
+                                 uint8_t *text, size_t *line,
+                                 int64_t *slack, uint64_t *wire, size_t *bytes);
+
 /* Measures the tree of a listing over its net, and tells whether what the
  * listing states is true. The net's need is read but not looked at.
  *
@@ -132,7 +159,7 @@ uint8_t repeater_tree_judge(const uint8_t *net, size_t net_length,
                             int64_t *slack, uint64_t *wire, int64_t *best);
 
 /* The archive's functions ask for an address that is not null also where a
- * length is 0. These lend one, and the two names above mean them from here on,
+ * length is 0. These lend one, and the names above mean them from here on,
  * so that NULL with 0 is fine in every call and through every pointer. */
 static inline uint8_t repeater_tree_plan_lent(
     const uint8_t *net, size_t net_length,
@@ -144,6 +171,18 @@ static inline uint8_t repeater_tree_plan_lent(
     return repeater_tree_plan(net_length == 0 ? &no_text : net, net_length,
                               out_length == 0 ? &no_output : out, out_length,
                               text, line, slack, wire, bytes);
+}
+
+static inline uint8_t repeater_tree_plan_short_lent(
+    const uint8_t *net, size_t net_length,
+    uint8_t *out, size_t out_length,
+    uint8_t *text, size_t *line,
+    int64_t *slack, uint64_t *wire, size_t *bytes) {
+    const uint8_t no_text = 0;
+    uint8_t no_output = 0;
+    return repeater_tree_plan_short(net_length == 0 ? &no_text : net, net_length,
+                                    out_length == 0 ? &no_output : out, out_length,
+                                    text, line, slack, wire, bytes);
 }
 
 static inline uint8_t repeater_tree_judge_lent(
@@ -193,6 +232,7 @@ static inline const char *repeater_tree_words(uint8_t number, size_t line) {
 }
 
 #define repeater_tree_plan repeater_tree_plan_lent
+#define repeater_tree_plan_short repeater_tree_plan_short_lent
 #define repeater_tree_judge repeater_tree_judge_lent
 
 #ifdef __cplusplus

@@ -1,4 +1,4 @@
-/* Measures how much stack a plan and a judgement take: each call runs in a
+/* Measures how much stack each plan and a judgement take: each call runs in a
  * thread on a stack of our own, filled with one byte beforehand, and the lowest
  * byte that changed tells how far down the call went. Fails where a call takes
  * more than REPEATER_TREE_STACK.
@@ -39,6 +39,18 @@ static void *plan(void *given) {
     job->from = &text;
     job->number = repeater_tree_plan(net, net_length, listing, job->out_length,
                                      &text, &line, &slack, &wire, &listing_length);
+    return NULL;
+}
+
+static void *plan_short(void *given) {
+    struct job *job = given;
+    uint8_t text;
+    size_t line;
+    int64_t slack;
+    uint64_t wire;
+    job->from = &text;
+    job->number = repeater_tree_plan_short(net, net_length, listing, job->out_length,
+                                           &text, &line, &slack, &wire, &listing_length);
     return NULL;
 }
 
@@ -90,15 +102,17 @@ static void make_net(int sinks) {
 int main(void) {
     static const int sizes[] = {1, 16, 17, 64, 65, 512};
     size_t most = 0;
-    puts("bytes of stack:\nsinks  plan  plan, no byte to spare  judge");
+    puts("bytes of stack:\nsinks  plan  plan, no byte to spare  judge  short tree  no byte to spare");
     for (size_t i = 0; i < sizeof sizes / sizeof *sizes; i++) {
-        size_t used[3];
+        size_t used[5];
         make_net(sizes[i]);
         used[0] = used_by(plan, sizeof listing);
         used[1] = used_by(plan, listing_length);
         used[2] = used_by(judge, 0);
-        printf("%5d %6zu %22zu %6zu\n", sizes[i], used[0], used[1], used[2]);
-        for (size_t j = 0; j < 3; j++)
+        used[3] = used_by(plan_short, sizeof listing);
+        used[4] = used_by(plan_short, listing_length);
+        printf("%5d %6zu %22zu %6zu %11zu %16zu\n", sizes[i], used[0], used[1], used[2], used[3], used[4]);
+        for (size_t j = 0; j < 5; j++)
             if (used[j] > most) most = used[j];
     }
     printf("at most %zu, REPEATER_TREE_STACK is %d\n", most, REPEATER_TREE_STACK);

@@ -1,6 +1,6 @@
-//! The two calls with every figure as the library gives it.
+//! The calls with every figure as the library gives it.
 
-/// All figures of a plan call.
+/// All figures of a call that plans.
 #[derive(Clone, Copy, Debug, Default, PartialEq, Eq)]
 pub struct PlanFigures {
     pub number: u8,
@@ -35,6 +35,18 @@ extern "C" {
         bytes: *mut usize,
     ) -> u8;
 
+    fn repeater_tree_plan_short(
+        net: *const u8,
+        net_length: usize,
+        out: *mut u8,
+        out_length: usize,
+        text: *mut u8,
+        line: *mut usize,
+        slack: *mut i64,
+        wire: *mut u64,
+        bytes: *mut usize,
+    ) -> u8;
+
     fn repeater_tree_judge(
         net: *const u8,
         net_length: usize,
@@ -48,12 +60,24 @@ extern "C" {
     ) -> u8;
 }
 
-/// Plans, and overwrites every figure.
-pub fn plan_figures(net: &[u8], out: &mut [u8], f: &mut PlanFigures) {
+/// A call that plans.
+type Planner = unsafe extern "C" fn(
+    *const u8,
+    usize,
+    *mut u8,
+    usize,
+    *mut u8,
+    *mut usize,
+    *mut i64,
+    *mut u64,
+    *mut usize,
+) -> u8;
+
+fn plan_by(planner: Planner, net: &[u8], out: &mut [u8], f: &mut PlanFigures) {
     // SAFETY: slices are non-null and valid for their lengths, also when empty;
     // the exclusive borrows keep output and figures apart from all else.
     f.number = unsafe {
-        repeater_tree_plan(
+        planner(
             net.as_ptr(),
             net.len(),
             out.as_mut_ptr(),
@@ -65,6 +89,16 @@ pub fn plan_figures(net: &[u8], out: &mut [u8], f: &mut PlanFigures) {
             &mut f.bytes,
         )
     };
+}
+
+/// Plans, and overwrites every figure.
+pub fn plan_figures(net: &[u8], out: &mut [u8], f: &mut PlanFigures) {
+    plan_by(repeater_tree_plan, net, out, f);
+}
+
+/// Plans a short tree, and overwrites every figure.
+pub fn plan_short_figures(net: &[u8], out: &mut [u8], f: &mut PlanFigures) {
+    plan_by(repeater_tree_plan_short, net, out, f);
 }
 
 /// Judges, and overwrites every figure.

@@ -19,12 +19,13 @@
 mod calls;
 mod refusal;
 
-pub use calls::{judge_figures, plan_figures, JudgeFigures, PlanFigures};
+pub use calls::{judge_figures, plan_figures, plan_short_figures, JudgeFigures, PlanFigures};
 pub use refusal::Refusal;
 
 /// The longest net text that is read, in bytes.
 pub const NET_LENGTH: usize = 32_768;
-/// The longest listing that is read, in bytes; enough for every plan.
+/// The longest listing that is read, in bytes; enough for every plan of either
+/// kind.
 pub const LISTING_LENGTH: usize = 32_768;
 /// The farthest that a sink may stand from the root, |dx| + |dy|, in
 /// nanometres. A net with a farther one is refused by number 13, on the
@@ -37,8 +38,10 @@ pub const STACK: usize = 81_920;
 /// A plan's figures. Its listing is the output's first `bytes` bytes.
 #[derive(Clone, Copy, Debug, PartialEq, Eq)]
 pub struct Plan {
-    /// Worst slack, in attoseconds: the largest of any legal tree over the
-    /// net, -1,000,409,000,000,000 to 1,000,000,000,000,000.
+    /// Worst slack, in attoseconds. Of [`plan`] the largest of any legal tree
+    /// over the net, -1,000,409,000,000,000 to 1,000,000,000,000,000; of
+    /// [`plan_short`] that of the short tree, -1,205,311,000,000,000 to
+    /// 1,000,000,000,000,000.
     pub slack: i64,
     /// Wire, in nanometres, 0 to 20,480,000,000.
     pub wire: u64,
@@ -73,6 +76,30 @@ pub struct Measures {
 pub fn plan(net: &[u8], out: &mut [u8]) -> Result<Plan, Refusal> {
     let mut f = PlanFigures::default();
     plan_figures(net, out, &mut f);
+    planned(f)
+}
+
+/// Plans a short tree for the net and writes the listing to the front of `out`,
+/// as [`plan`] does: its wire is at most that of every spanning tree of straight
+/// wires on the root and the sinks. The net's need is not looked at, so refusal
+/// 5 is never given, and the worst slack may be less than the best.
+///
+/// ```
+/// // Both pins are due at once: a branch point of their own on the way to the
+/// // second would cost the first its slack.
+/// let net = b"root=0,0\nbranch=20\nwire=1,1\nneed=0\nsinks=2\nsink=9,0,40\nsink=9,5,40\n";
+/// let mut out = [0; repeater_tree::LISTING_LENGTH];
+/// let short = repeater_tree::plan_short(net, &mut out).unwrap();
+/// assert_eq!((short.slack, short.wire), (6, 14));
+/// assert_eq!(repeater_tree::judge(net, &out[..short.bytes]).unwrap().wire, 14);
+/// ```
+pub fn plan_short(net: &[u8], out: &mut [u8]) -> Result<Plan, Refusal> {
+    let mut f = PlanFigures::default();
+    plan_short_figures(net, out, &mut f);
+    planned(f)
+}
+
+fn planned(f: PlanFigures) -> Result<Plan, Refusal> {
     Refusal::check(f.number, f.text, f.line)?;
     Ok(Plan {
         slack: f.slack,

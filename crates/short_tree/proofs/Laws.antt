@@ -15,3 +15,4 @@ pub mod Inserting
 pub mod Ends
 pub mod ShortArrays
 pub mod SecondPlan
+pub mod Marked

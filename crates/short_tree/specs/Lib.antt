@@ -3,5 +3,6 @@ pub mod Choosing
 pub mod ShortTree
 pub mod Theorem2
 pub mod SecondPlan
+pub mod Marked
 -- What serves the contracts of inner functions. Nothing of it need be believed.
 pub mod Inner

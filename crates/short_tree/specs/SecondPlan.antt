@@ -2,7 +2,10 @@
 use Prim.Native.Nat.{ℕ, _≤_}
 use mathlib.Core.Path.{_≡_}
 use mathlib.Core.List.{List}
+use Rattle.quantities.specs.Ranges.{Within}
 use Rattle.tree.specs.Net.{Net, size, sinkAt}
+use Rattle.tree.specs.Measures.{worstSlack, wireLength}
+use Rattle.tree.specs.Limits.{slackLimit, wireLimit, InRange}
 use Rattle.tree.specs.SpanningTrees.{Link, SpanningTree, linkWire, terminals}
 use Rattle.formats.specs.Outcome.{Outcome, value}
 use Rattle.formats.specs.NetText.{InFormat}
@@ -21,7 +24,9 @@ shortOutput = treePlanOutput short
 pub record SecondPlan : Type 0 where
   -- "It ignores need, so never gives 5"; "Its listing passes judge"; each refusal exactly for its fault; every byte of the output
   pub plan : TreePlan short
-  -- the choice, the tree and "(Theorem 2)", for every net in the format
-  pub tree : (net : List ℕ) (N : Net) → InFormat net N → Theorem2 N
+  -- the choice, the tree and "(Theorem 2)", for every net, in the format or not
+  pub tree : (N : Net) → 1 ≤ size N → Theorem2 N
+  -- its slack and wire are in the ranges of W and L
+  pub ranges : (N : Net) → InRange N → Within slackLimit (worstSlack N (short N)) × (wireLength N (short N) ≤ wireLimit)
   -- "and its wire is at most that of every spanning tree on the root and the sinks": the wire that is returned
   pub shortest : (net : List ℕ) (N : Net) → InFormat net N → (room : ℕ) (w : Written) → treePlanOf short net room ≡ value w → (L : List Link) → SpanningTree (terminals (size N)) L → w .wire ≤ linkWire (sinkAt N) L

@@ -174,8 +174,8 @@ module _ (make : Net → Tree) where
     unfolding treeListing
     listing-format = listing-in-format (size N) (stated N (make N)) (made-in-range make M N (size N) (stated N (make N)) refl refl (F .in-range))
 
-    own : judgeOf net (treeListing make N) ≡ value (judged N (stated N (make N)))
-    own = judge-true net N F (treeListing make N) (stated N (make N)) listing-format (M .legal N (F .in-range), refl, refl)
+    pub tree-judged : judgeOf net (treeListing make N) ≡ value (judged N (stated N (make N)))
+    tree-judged = judge-true net N F (treeListing make N) (stated N (make N)) listing-format (M .legal N (F .in-range), refl, refl)
 
     read-back : (out : List ℕ) (w : Written) → treePlanOf make net (length out) ≡ value w
         → judgeOf net (take (length (w .bytes)) (treePlanOutput make net out)) ≡ value (record { slack = w .slack; wire = w .wire; best = kraftMaximum (N .branch) (ownSlacks N) })
@@ -184,7 +184,7 @@ module _ (make : Net → Tree) where
         let o = all-written out w z in
         (λ i. judgeOf net (take (length (h i .bytes)) (o i)))
         ∙ ap (judgeOf net) (take-at (treeListing make N) (drop (length (treeListing make N)) out) (length (treeListing make N)) refl)
-        ∙ own
+        ∙ tree-judged
         ∙ (λ i. value (record { slack = sym h i .slack; wire = sym h i .wire; best = kraftMaximum (N .branch) (ownSlacks N) }))
 
     ignores-need : (other : List ℕ) (t : ℤ) → InFormat other (withNeed t N) → (room : ℕ) → treePlanOf make other room ≡ treePlanOf make net room

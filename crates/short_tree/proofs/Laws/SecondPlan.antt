@@ -15,7 +15,7 @@ use Rattle.operations.proofs.Laws.TreePlans.{Makes, tree-plan}
 use Rattle.short_tree.specs.ShortTree.{Growing, step, after, short}
 use Rattle.short_tree.specs.SecondPlan.{SecondPlan}
 use Rattle.short_tree.proofs.Laws.Theorem2.{theorem2}
-use Rattle.short_tree.proofs.Laws.Ranges.{short-within, short-slack-range}
+use Rattle.short_tree.proofs.Laws.Ranges.{short-within, short-slack-range, short-wire-range}
 
 -- the procedure does not look at need
 after-needless : (t : ℤ) (N : Net) (k : ℕ) → after (withNeed t N) k ≡ after N k
@@ -37,7 +37,8 @@ short-makes = record {
 pub second-plan : SecondPlan
 second-plan = record {
   plan = tree-plan short short-makes;
-  tree = λ net N F. theorem2 N (F .in-range .sinks .0);
+  tree = theorem2;
+  ranges = λ N R. (short-slack-range N R, short-wire-range N R);
   shortest = shortest;
 }
   where

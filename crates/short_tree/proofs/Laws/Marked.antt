@@ -1,0 +1,113 @@
+-- The marked nets of request 6, by computation. Assumes nothing.
+use Prim.Native.Nat.{ℕ, _≤_}
+use mathlib.Core.Path.{_≡_, refl, sym, ap, _∙_}
+use mathlib.Core.Bool.{false}
+use mathlib.Core.List.{List, [], _∷_}
+use native.Mathlib.Omega.{arith}
+use borrow.Author.Tests.{le-ltb}
+use lib.ListN.{length}
+use lib.Dec.{ltb}
+use lib.IntN.{ℤ, pos, negℤ}
+use Rattle.quantities.specs.MinMax.{minℤ, maxℤ}
+use Rattle.quantities.specs.Distance.{distance, span}
+use Rattle.quantities.specs.Delay.{delay}
+use Rattle.quantities.specs.Median.{median, medianPoint}
+use Rattle.quantities.specs.Floor.{floorDiv}
+use Rattle.tree.specs.Net.{Net, size, ownSlacks}
+use Rattle.tree.specs.Kraft.{kraftMaximum, searchDown}
+use Rattle.tree.specs.Measures.{worstSlack, wireLength}
+use Rattle.tree.specs.Marked.{point, sink, metals, netA}
+use Rattle.formats.specs.Decimal.{showNat, show, digits}
+use Rattle.formats.specs.Outcome.{value, refused, andThen}
+use Rattle.formats.specs.ListingText.{listingText}
+use Rattle.formats.specs.Reading.Numbers.{lead, natural, field}
+use Rattle.formats.specs.Reading.Numbers.{value as digitsValue}
+use Rattle.formats.specs.Reading.Rows.{numberThen, rowIn, begins, lineIn}
+use Rattle.formats.specs.Reading.Nets.{readNet}
+use Rattle.formats.specs.declared.refusal.Refusal.the-variants.{TooShort}
+use Rattle.formats.proofs.Laws.Nets.NetTexts.{net-sound}
+use Rattle.operations.specs.Answers.{stated, emitted, judgeOf}
+use Rattle.operations.specs.Demands.{withNeed}
+use Rattle.operations.specs.TreePlans.{treeListing, treePlanOf}
+use Rattle.operations.specs.Marked.{textA, textA1}
+use Rattle.operations.proofs.Laws.Marked as first
+use Rattle.operations.proofs.Laws.TreePlans.{tree-judged}
+use Rattle.short_tree.specs.ShortTree.{short}
+use Rattle.short_tree.specs.SecondPlan.{shortOf}
+use Rattle.short_tree.specs.Marked.{shortA, textTied, shortTied, Marked}
+use Rattle.short_tree.proofs.Laws.SecondPlan.{short-makes, second-plan}
+
+-- a net that is read as N, and the listing of its short tree
+short-over : (net : List ℕ) (N : Net) → readNet net ≡ value N → (slack : ℤ) (wire : ℕ) (bytes : List ℕ) → worstSlack N (short N) ≡ slack → wireLength N (short N) ≡ wire → treeListing short N ≡ bytes
+    → (room : ℕ) → length bytes ≤ room → shortOf net room ≡ value (record { slack = slack; wire = wire; bytes = bytes })
+unfolding treePlanOf treeListing
+short-over net N r slack wire bytes s w l room h =
+    let t : ltb room (length (listingText (size N) (stated N (short N)))) ≡ false = le-ltb room (length (listingText (size N) (stated N (short N)))) (omega (arith, ap length l)) in
+    ap (λ o. andThen o (λ N. emitted (size N) (stated N (short N)) room)) r ∙ rw (emitted, t) (λ i. value (record { slack = s i; wire = w i; bytes = l i }))
+
+-- ---- A
+
+read-A : readNet textA ≡ value netA
+unfolding readNet numberThen rowIn begins lineIn field natural digitsValue lead distance span
+read-A = refl
+
+read-A1 : readNet textA1 ≡ value (withNeed (pos 1) netA)
+unfolding readNet numberThen rowIn begins lineIn field natural digitsValue lead distance span
+read-A1 = refl
+
+slack-A : worstSlack netA (short netA) ≡ negℤ (pos 10)
+unfolding worstSlack short minℤ maxℤ median medianPoint delay distance span
+slack-A = refl
+
+wire-A : wireLength netA (short netA) ≡ 26
+unfolding wireLength short minℤ maxℤ median medianPoint distance span
+wire-A = refl
+
+listing-A : treeListing short netA ≡ shortA
+unfolding treeListing listingText digits showNat show worstSlack wireLength short minℤ maxℤ median medianPoint delay distance span
+listing-A = refl
+
+A-short : (room : ℕ) → length shortA ≤ room → shortOf textA room ≡ value (record { slack = negℤ (pos 10); wire = 26; bytes = shortA })
+A-short = short-over textA netA read-A (negℤ (pos 10)) 26 shortA slack-A wire-A listing-A
+
+-- with another need nothing changes
+A1-short : (room : ℕ) → length shortA ≤ room → shortOf textA1 room ≡ value (record { slack = negℤ (pos 10); wire = 26; bytes = shortA })
+A1-short room h = second-plan .plan .nets textA netA (net-sound textA netA read-A) .needless textA1 (pos 1) (net-sound textA1 (withNeed (pos 1) netA) read-A1) room ∙ A-short room h
+
+best-A : kraftMaximum (netA .branch) (ownSlacks netA) ≡ pos 0
+unfolding kraftMaximum searchDown floorDiv minℤ delay distance span
+best-A = refl
+
+A-judged : judgeOf textA shortA ≡ value (record { slack = negℤ (pos 10); wire = 26; best = pos 0 })
+A-judged = ap (judgeOf textA) (sym listing-A) ∙ tree-judged short short-makes textA netA (net-sound textA netA read-A) ∙ (λ i. value (record { slack = slack-A i; wire = wire-A i; best = best-A i }))
+
+A-room : shortOf textA 79 ≡ refused TooShort
+A-room = second-plan .plan .nets textA netA (net-sound textA netA read-A) .short 79 .1 (omega (arith, ap length listing-A))
+
+-- ---- ties
+
+tiedNet : Net
+tiedNet = record {
+  root = point (pos 0) (pos 0);
+  branch = 20;
+  wire = metals 2 3;
+  need = pos 0;
+  sinks = sink (pos 3) (pos 4) (pos 60) ∷ (sink (pos 2) (pos 4) (pos 60) ∷ (sink (pos 5) (pos 0) (pos 60) ∷ []));
+}
+
+tied-sinks : (room : ℕ) → length shortTied ≤ room → shortOf textTied room ≡ value (record { slack = pos 0; wire = 10; bytes = shortTied })
+unfolding tiedNet readNet numberThen rowIn begins lineIn field natural digitsValue lead treeListing listingText digits showNat show worstSlack wireLength short minℤ maxℤ median medianPoint delay distance span
+tied-sinks = short-over textTied tiedNet refl (pos 0) 10 shortTied refl refl refl
+
+pub marked : Marked
+unfolding short minℤ maxℤ median medianPoint distance span
+marked = record {
+  A-short = A-short;
+  A-judged = A-judged;
+  A-first = first.marked .A-plan;
+  A-need = λ room h. (first.marked .A-need room, A1-short room h);
+  A-room = (refl, A-room);
+  tied-sinks = tied-sinks;
+  tied-ends = (refl, refl);
+  one-sink = λ c. (refl, refl);
+}
