@@ -60,8 +60,49 @@ fn plan_rest(
     emit(out, tally.worst, tally.wire, n, parents, xs, ys)
 }
 
-// A net of at most 64 sinks: small arrays, which are soon cleared.
+// A net of at most 16 sinks: small arrays, which are soon cleared.
 fn plan_small(
+    net: &[u8],
+    header: Header,
+    root: Point,
+    n: usize,
+    next: Place,
+    out: &mut [u8],
+) -> PlanAnswer
+    requires head { ⌜ HeadHeld 16 (now net) header root n next ⌝ }
+    ensures answer { λ r. ⌜ r ≡ planAnswer (shortOf (now (net .entry)) (length (now (out .entry)))) ⌝ }
+    ensures output { λ r. ⌜ now (out .exit) ≡ shortOutput (now (net .entry)) (now (out .entry)) ⌝ }
+{
+    let mut xs = [0i64; 32];
+    let mut ys = [0i64; 32];
+    let mut required = [0i64; 17];
+    let mut parents = [0usize; 32];
+    let mut kept = [0usize; 32];
+    let mut costs = [0u64; 17];
+    let mut second = [0usize; 32];
+    let mut queue = [0usize; 32];
+    let mut slacks = [0i64; 32];
+    plan_rest(
+        net,
+        header,
+        root,
+        n,
+        next,
+        &mut xs,
+        &mut ys,
+        &mut required,
+        &mut parents,
+        &mut kept,
+        &mut costs,
+        &mut second,
+        &mut queue,
+        &mut slacks,
+        out,
+    )
+}
+
+// A net of at most 64 sinks, the same.
+fn plan_medium(
     net: &[u8],
     header: Header,
     root: Point,
@@ -155,8 +196,10 @@ pub fn plan_short(net: &[u8], out: &mut [u8]) -> PlanAnswer
             n,
             next,
         } => {
-            if n <= 64 {
+            if n <= 16 {
                 plan_small(net, header, root, n, next, out)
+            } else if n <= 64 {
+                plan_medium(net, header, root, n, next, out)
             } else {
                 plan_large(net, header, root, n, next, out)
             }

@@ -3,10 +3,23 @@ use mathlib.Core.Path.{sym, _∙_}
 use native.Mathlib.Omega.{arith}
 use native.Mathlib.Nat.{le-refl}
 use lib.ListN.{getD}
+use Rattle.short_tree.specs.Inner.Arrays.{AllKept, SameZeros, Looked}
 use Rattle.short_tree.proofs.Laws.SinkSearch.{is-behind, not-behind, looked-skip, looked-stay, looked-take, looked-other, found-zeros, found-kept}
 use borrow.Author.Needs.{needs}
 use Rattle.short_tree.proofs.choose.better_sink.Statement.{statement}
 use Rattle.short_tree.proofs.choose.better_sink.Tie as tie
+
+-- the arrays once the cheapest edge of s was found: the sinks before it are as they were
+found : (c : tie.After-is-behind2) → (let a = c .before .before .before .before .before .before .before .before .before .before .before .before .before .before .before .before .before .args in let r = c .before .before .before .before .before .before .find-edge in AllKept (a .n) (a .last) (a .parents .now) (a .xs .now) (a .ys .now) (r .last .1 .0) (r .last .1 .1 .0) × Looked (a .parents .now) (a .xs .now) (a .ys .now) (r .last .1 .0) (r .last .1 .1 .0) (a .s) (a .best) × SameZeros (a .kept .now) (r .last .1 .0))
+found c =
+    let s = c .before .before .before .before .before .before .before .before .before .before .before .before .before .before .before .before .before in
+    let a = s .args in
+    let r = c .before .before .before .before .before .before .find-edge in
+    let w = c .before .before .before .before .before .before .before .before .before .before .before .before .if1 .left in (
+      found-kept (a .parents .now) (a .xs .now) (a .ys .now) (a .n) (a .last) (a .kept .now) (a .costs .now) (r .last .1 .0) (r .last .1 .1 .0) (a .s) (r .ensures .1 .0) (r .ensures .1 .1) (r .ensures .0) w (s .pre .1 .0),
+      looked-other (a .parents .now) (a .xs .now) (a .ys .now) (a .kept .now) (a .costs .now) (r .last .1 .0) (r .last .1 .1 .0) (a .s) (a .best) (r .ensures .1 .0) (r .ensures .1 .1) (s .pre .1 .1),
+      found-zeros (a .parents .now) (a .xs .now) (a .ys .now) (a .n) (a .last) (a .kept .now) (a .costs .now) (r .last .1 .0) (r .last .1 .1 .0) (a .s) (r .ensures .1 .0) (r .ensures .1 .1) (r .ensures .0) w,
+    )
 
 mul-if1 : tie.Need-mul-if1
 mul-if1 c = search needs
@@ -53,14 +66,9 @@ returns-3 c =
     let s = c .before .before .before .before .before .before .before .before .before .before .before .before .before .before .before .before .before .before in
     let a = s .args in
     let r = c .before .before .before .before .before .before .before .find-edge in
-    let kept = r .last .1 .0 in
-    let costs = r .last .1 .1 .0 in
-    let w = c .before .before .before .before .before .before .before .before .before .before .before .before .before .if1 .left in
-    let known = found-kept (a .parents .now) (a .xs .now) (a .ys .now) (a .n) (a .last) (a .kept .now) (a .costs .now) kept costs (a .s) (r .ensures .1 .0) (r .ensures .1 .1) (r .ensures .0) w (s .pre .1 .0) in
-    let zeros = found-zeros (a .parents .now) (a .xs .now) (a .ys .now) (a .n) (a .last) (a .kept .now) (a .costs .now) kept costs (a .s) (r .ensures .1 .0) (r .ensures .1 .1) (r .ensures .0) w in
-    let F = looked-other (a .parents .now) (a .xs .now) (a .ys .now) (a .kept .now) (a .costs .now) kept costs (a .s) (a .best) (r .ensures .1 .0) (r .ensures .1 .1) (s .pre .1 .1) in
-    let b = is-behind (a .best) (getD costs (a .best) 0) (getD costs (a .s) 0) (sym (c .before .is-behind2 .ensures) ∙ c .if3 .taken) in
-    (known, ((looked-stay (a .parents .now) (a .xs .now) (a .ys .now) kept costs (a .s) (a .best) (s .pre .0 .4) F (b .0) (b .1), omega (arith, s .pre .0)), zeros))
+    let f = found (c .before) in
+    let b = is-behind (a .best) (getD (r .last .1 .1 .0) (a .best) 0) (getD (r .last .1 .1 .0) (a .s) 0) (sym (c .before .is-behind2 .ensures) ∙ c .if3 .taken) in
+    (f .0, ((looked-stay (a .parents .now) (a .xs .now) (a .ys .now) (r .last .1 .0) (r .last .1 .1 .0) (a .s) (a .best) (s .pre .0 .4) (f .1) (b .0) (b .1), omega (arith, s .pre .0)), f .2))
 
 same-length-4 : tie.Need-same-length-4
 same-length-4 c = search needs
@@ -73,14 +81,10 @@ returns-4 c =
     let s = c .before .before .before .before .before .before .before .before .before .before .before .before .before .before .before .before .before .before in
     let a = s .args in
     let r = c .before .before .before .before .before .before .before .find-edge in
-    let kept = r .last .1 .0 in
-    let costs = r .last .1 .1 .0 in
+    let f = found (c .before) in
+    let b = not-behind (a .best) (getD (r .last .1 .1 .0) (a .best) 0) (getD (r .last .1 .1 .0) (a .s) 0) (sym (c .before .is-behind2 .ensures) ∙ c .if3 .left) in
     let w = c .before .before .before .before .before .before .before .before .before .before .before .before .before .if1 .left in
-    let known = found-kept (a .parents .now) (a .xs .now) (a .ys .now) (a .n) (a .last) (a .kept .now) (a .costs .now) kept costs (a .s) (r .ensures .1 .0) (r .ensures .1 .1) (r .ensures .0) w (s .pre .1 .0) in
-    let zeros = found-zeros (a .parents .now) (a .xs .now) (a .ys .now) (a .n) (a .last) (a .kept .now) (a .costs .now) kept costs (a .s) (r .ensures .1 .0) (r .ensures .1 .1) (r .ensures .0) w in
-    let F = looked-other (a .parents .now) (a .xs .now) (a .ys .now) (a .kept .now) (a .costs .now) kept costs (a .s) (a .best) (r .ensures .1 .0) (r .ensures .1 .1) (s .pre .1 .1) in
-    let b = not-behind (a .best) (getD costs (a .best) 0) (getD costs (a .s) 0) (sym (c .before .is-behind2 .ensures) ∙ c .if3 .left) in
-    (known, ((looked-take (a .parents .now) (a .xs .now) (a .ys .now) kept costs (a .s) (a .best) (s .pre .0 .4) F (λ e. w (zeros (a .s) .1 e)) (r .ensures .0 .cost-is) b, le-refl (a .s)), zeros))
+    (f .0, ((looked-take (a .parents .now) (a .xs .now) (a .ys .now) (r .last .1 .0) (r .last .1 .1 .0) (a .s) (a .best) (s .pre .0 .4) (f .1) (λ e. w (f .2 (a .s) .1 e)) (r .ensures .0 .cost-is) b, le-refl (a .s)), f .2))
 
 pub better-sink-spec : {M : Type 1} → statement M
 better-sink-spec =

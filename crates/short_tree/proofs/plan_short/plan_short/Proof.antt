@@ -19,8 +19,14 @@ plan-small-requires c κs =
     let w = rw (c .before .before .before .header .given .1) at (c .before .before .before .before .before .read-head .ensures) in
     (w .0, (c .before .if1 .taken, w .1 .1, w .1 .2, w .1 .3))
 
+plan-medium-requires : tie.Need-plan-medium-requires
+plan-medium-requires c κs =
+    let w = rw (c .before .before .before .before .header .given .1) at (c .before .before .before .before .before .before .read-head .ensures) in
+    (w .0, (c .before .if2 .taken, w .1 .1, w .1 .2, w .1 .3))
+
 plan-large-requires : tie.Need-plan-large-requires
-plan-large-requires c κs = rw (c .before .before .before .header .given .1) at (c .before .before .before .before .before .read-head .ensures)
+plan-large-requires c κs =
+    rw (c .before .before .before .before .header .given .1) at (c .before .before .before .before .before .before .read-head .ensures)
 
 returns : tie.Need-returns
 returns c = tree-refused-answer short _ _ _ (rw (c .before .refusal .given .1) at (c .before .before .before .read-head .ensures))
@@ -37,6 +43,12 @@ same-length-2 c = search needs
 returns-3 : tie.Need-returns-3
 returns-3 c = search needs
 
+same-length-3 : tie.Need-same-length-3
+same-length-3 c = search needs
+
+returns-4 : tie.Need-returns-4
+returns-4 c = search needs
+
 pub plan-short-spec : {M : Type 1} → statement M
 plan-short-spec =
     tie.close
@@ -45,9 +57,12 @@ plan-short-spec =
     enum-known-refusal
     enum-known-header
     plan-small-requires
+    plan-medium-requires
     plan-large-requires
     returns
     same-length
     returns-2
     same-length-2
-    returns-3)
+    returns-3
+    same-length-3
+    returns-4)

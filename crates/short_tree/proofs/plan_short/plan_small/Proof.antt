@@ -1,4 +1,4 @@
--- Arrays for 64 sinks are long enough for plan_rest. No loop.
+-- Arrays for 16 sinks are long enough for plan_rest. No loop.
 use native.Mathlib.Omega.{arith}
 use borrow.Author.Needs.{needs}
 use Rattle.short_tree.proofs.plan_short.plan_small.Statement.{statement}
