@@ -4,7 +4,7 @@
 
 use crate::kraft;
 use crate::net::Net;
-use crate::tree::{branch_points_above, children, leaves_up, median, slack, Point, Tree};
+use crate::tree::{bare, branch_points_above, children, leaves_up, median, slack, Tree};
 use std::cmp::Reverse;
 
 /// One sink is to be inserted into the tree so far.
@@ -69,7 +69,7 @@ pub fn planned(net: &Net, mut choose: impl FnMut(&Insertion) -> usize) -> Tree {
     let n = net.sinks.len();
     let mut order: Vec<usize> = (1..=n).collect();
     order.sort_by_key(|&k| (net.own_slack(k), k));
-    let mut tree = unsettled(net);
+    let mut tree = bare(net);
     for i in 1..n {
         let insertion = Insertion {
             net,
@@ -83,18 +83,6 @@ pub fn planned(net: &Net, mut choose: impl FnMut(&Insertion) -> usize) -> Tree {
     }
     settle(&mut tree, 1..2 * n);
     tree
-}
-
-/// The first sink on the root: all parents 0, all branch points at the root.
-fn unsettled(net: &Net) -> Tree {
-    let n = net.sinks.len();
-    let mut point: Vec<Point> = vec![net.root];
-    point.extend(net.sinks.iter().map(|s| s.at));
-    point.resize(2 * n, net.root);
-    Tree {
-        parent: vec![0; 2 * n],
-        point,
-    }
 }
 
 /// The sum of 2^-(branch points above the sink) is exactly 1.

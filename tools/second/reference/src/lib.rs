@@ -1,12 +1,14 @@
-//! Plan and judge, written twice from the order alone, and plan once more in
-//! request 3's order of work.
+//! Both plans and judge, written twice from the order alone, and the first plan
+//! once more in request 3's order of work.
 //!
 //! `slow` does what the order says word by word: it builds and measures every
 //! candidate tree, and takes the Kraft maximum from its definition.
 //! `gathered` tries the edges from the smallest slack under each vertex; all
 //! else it shares with `slow`.
-//! `plain` is what a competent engineer would write, quadratic in the sinks;
-//! it shares nothing with these but the form of the answer.
+//! `short` is the second plan, the short tree, word by word; `spanning` has the
+//! trees that are no shorter.
+//! `plain` is what a competent engineer would write, both plans and judge; it
+//! shares nothing with these but the form of the answer.
 
 pub mod answer;
 pub mod gathered;
@@ -15,7 +17,9 @@ pub mod kraft;
 pub mod listing;
 pub mod net;
 pub mod plain;
+pub mod short;
 pub mod slow;
+pub mod spanning;
 pub mod spelling;
 pub mod tree;
 
@@ -27,3 +31,7 @@ mod metal_tests;
 mod random_tests;
 #[cfg(test)]
 mod range_tests;
+#[cfg(test)]
+mod short_tests;
+#[cfg(test)]
+mod spanning_tests;

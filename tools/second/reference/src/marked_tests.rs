@@ -9,7 +9,7 @@ use crate::{gathered, insertion, plain, slow};
 const A_LISTING: &str = "slack=0\nwire=32\nsinks=3\nleaf=1,5\nleaf=2,5\nleaf=3,4\n\
 node=4,0,4,0\nnode=5,4,4,0\n";
 
-fn a(need: &str) -> String {
+pub(crate) fn a(need: &str) -> String {
     format!(
         "root=0,0\nbranch=20\nwire=2,2\nneed={need}\nsinks=3\n\
          sink=10,0,100\nsink=4,6,60\nsink=10,10,70\n"

@@ -32,7 +32,12 @@ fn try_plan(
             line: 4,
         });
     }
-    let listing = listing_of(&net, planned(&net));
+    written(&net, planned(&net), out)
+}
+
+/// The tree's listing in the output's front, if there is room.
+pub fn written(net: &Net, tree: Tree, out: &mut [u8]) -> Result<(i64, u64, i64), Refusal> {
+    let listing = listing_of(net, tree);
     let text = listing.text();
     if out.len() < text.len() {
         return Err(Refusal {

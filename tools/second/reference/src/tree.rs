@@ -31,6 +31,19 @@ pub struct Tree {
     pub point: Vec<Point>,
 }
 
+/// The first sink on the root, whichever it is: all parents 0, all branch points
+/// at the root.
+pub fn bare(net: &Net) -> Tree {
+    let n = net.sinks.len();
+    let mut point: Vec<Point> = vec![net.root];
+    point.extend(net.sinks.iter().map(|s| s.at));
+    point.resize(2 * n, net.root);
+    Tree {
+        parent: vec![0; 2 * n],
+        point,
+    }
+}
+
 /// Why parents make no legal tree.
 #[derive(Clone, Copy, Debug, PartialEq, Eq)]
 pub enum Fault {

@@ -1,12 +1,15 @@
-//! Plan and judge as a competent engineer would write them, quadratic in the
-//! sinks: the reference for large nets and the baseline of the benchmark.
+//! Both plans and judge as a competent engineer would write them, quadratic in
+//! the sinks, the short tree on most nets: the reference for large nets and the
+//! baseline of the benchmark.
 
 mod grow;
 mod read;
+mod short;
 mod text;
 mod tree;
 
 use crate::answer::{Answer, Refusal};
+use read::Point;
 
 pub fn plan(net: &[u8], out: &mut [u8]) -> Answer {
     Answer::of(try_plan(net, out))
@@ -23,8 +26,17 @@ fn try_plan(net: &[u8], out: &mut [u8]) -> Result<(i64, u64, i64), Refusal> {
         });
     }
     let points = tree::settle(&net, &grown.parent);
-    let wire = tree::wire(&grown.parent, &points);
-    let text = text::listing(grown.worst, wire, &grown.parent, &points);
+    write(grown.worst, &grown.parent, &points, out)
+}
+
+fn write(
+    slack: i64,
+    parent: &[usize],
+    points: &[Point],
+    out: &mut [u8],
+) -> Result<(i64, u64, i64), Refusal> {
+    let wire = tree::wire(parent, points);
+    let text = text::listing(slack, wire, parent, points);
     if out.len() < text.len() {
         return Err(Refusal {
             number: 6,
@@ -33,7 +45,20 @@ fn try_plan(net: &[u8], out: &mut [u8]) -> Result<(i64, u64, i64), Refusal> {
         });
     }
     out[..text.len()].copy_from_slice(&text);
-    Ok((grown.worst, wire as u64, text.len() as i64))
+    Ok((slack, wire as u64, text.len() as i64))
+}
+
+/// The short tree.
+pub fn plan_short(net: &[u8], out: &mut [u8]) -> Answer {
+    Answer::of(try_plan_short(net, out))
+}
+
+fn try_plan_short(net: &[u8], out: &mut [u8]) -> Result<(i64, u64, i64), Refusal> {
+    let net = read::net(net)?;
+    let short::Grown { parent, points } = short::grow(&net);
+    let order = tree::top_down(net.sinks(), &parent).expect("a grown tree is legal");
+    let slack = tree::worst_slack(&net, &parent, &points, &order);
+    write(slack, &parent, &points, out)
 }
 
 pub fn judge(net: &[u8], listing: &[u8]) -> Answer {
@@ -44,7 +69,7 @@ fn try_judge(net: &[u8], listing: &[u8]) -> Result<(i64, u64, i64), Refusal> {
     let net = read::net(net)?;
     let listing = read::listing(listing, &net)?;
     let order = tree::top_down(net.sinks(), &listing.parent)?;
-    let slack = tree::worst_slack(&net, &listing, &order);
+    let slack = tree::worst_slack(&net, &listing.parent, &listing.points, &order);
     if slack != listing.slack {
         return Err(Refusal {
             number: 11,

@@ -1,6 +1,6 @@
 //! Legality, measures and settling by child lists.
 
-use super::read::{Listing, Net, Point};
+use super::read::{Net, Point};
 use crate::answer::Refusal;
 
 pub fn distance(a: Point, b: Point) -> i64 {
@@ -67,14 +67,14 @@ fn below(children: &[[usize; 2]], top: usize) -> Vec<usize> {
 }
 
 /// Delay to each vertex from the root down, then the least slack.
-pub fn worst_slack(net: &Net, listing: &Listing, order: &[usize]) -> i64 {
+pub fn worst_slack(net: &Net, parent: &[usize], points: &[Point], order: &[usize]) -> i64 {
     let n = net.sinks();
     let mut delay = vec![0i64; 2 * n];
     let mut worst = i64::MAX;
     for &v in order {
-        let p = listing.parent[v];
+        let p = parent[v];
         let branch = if p == 0 { 0 } else { net.branch };
-        let edge = net.wire.delay(listing.points[v], listing.points[p]);
+        let edge = net.wire.delay(points[v], points[p]);
         delay[v] = delay[p] + edge + branch;
         if v <= n {
             worst = worst.min(net.arrivals[v] - delay[v]);
