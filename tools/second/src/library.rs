@@ -44,3 +44,57 @@ pub fn judge(net: &[u8], listing: &[u8]) -> Answer {
         last: f.best,
     }
 }
+
+extern "C" {
+    fn repeater_tree_plan_short(
+        net: *const u8,
+        net_length: usize,
+        out: *mut u8,
+        out_length: usize,
+        text: *mut u8,
+        line: *mut usize,
+        slack: *mut i64,
+        wire: *mut u64,
+        bytes: *mut usize,
+    ) -> u8;
+}
+
+/// The short tree.
+pub fn plan_short(net: &[u8], out: &mut [u8]) -> Answer {
+    let mut f = PlanFigures {
+        number: 99,
+        text: 99,
+        line: 99,
+        slack: -99,
+        wire: 99,
+        bytes: 99_999,
+    };
+    plan_short_figures(net, out, &mut f);
+    Answer {
+        number: f.number,
+        text: f.text,
+        line: f.line,
+        slack: f.slack,
+        wire: f.wire,
+        last: f.bytes as i64,
+    }
+}
+
+/// Overwrites every figure.
+pub fn plan_short_figures(net: &[u8], out: &mut [u8], f: &mut PlanFigures) {
+    // SAFETY: slices are non-null and valid for their lengths, also when empty;
+    // the exclusive borrows keep output and figures apart from all else.
+    f.number = unsafe {
+        repeater_tree_plan_short(
+            net.as_ptr(),
+            net.len(),
+            out.as_mut_ptr(),
+            out.len(),
+            &mut f.text,
+            &mut f.line,
+            &mut f.slack,
+            &mut f.wire,
+            &mut f.bytes,
+        )
+    };
+}

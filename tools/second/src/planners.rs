@@ -2,7 +2,7 @@
 
 use crate::library;
 use second_reference::answer::Answer;
-use second_reference::{gathered, plain, slow};
+use second_reference::{gathered, plain, short, slow};
 
 pub type Planner = (&'static str, fn(&[u8], &mut [u8]) -> Answer);
 
@@ -11,3 +11,9 @@ pub const PLAIN: Planner = ("plain", plain::plan);
 /// For nets of at most `slow::MOST_SINKS` sinks.
 pub const SLOW: Planner = ("slow", slow::plan);
 pub const GATHERED: Planner = ("gathered", gathered::plan);
+
+/// Of the short tree.
+pub const SHORT_LIBRARY: Planner = ("library", library::plan_short);
+pub const SHORT_PLAIN: Planner = ("plain", plain::plan_short);
+/// For nets of at most `short::MOST_SINKS` sinks, and a few others.
+pub const SHORT_SLOW: Planner = ("slow", short::plan);

@@ -4,6 +4,7 @@
 use crate::decided::Decided;
 use crate::library;
 use crate::planners::{Planner, GATHERED, PLAIN, SLOW};
+use crate::short::Shorts;
 use second_reference::answer::Answer;
 use second_reference::gathered::Checked;
 use second_reference::listing::Listing;
@@ -13,17 +14,20 @@ use second_reference::{gathered, kraft, plain, slow};
 use std::collections::BTreeMap;
 
 /// Past the output lent to the library; must stay as it was.
-const GUARD: usize = 64;
+pub(crate) const GUARD: usize = 64;
 /// Enough to see what is wrong without flooding the screen.
 const MOST_PRINTED: u64 = 20;
 const LAST_NUMBER: u8 = 13;
 /// Gathering takes long on large nets: one case in so many has them.
 const LARGE_GATHERED: u64 = 8;
 
-/// What was compared. Only the first two run the library.
+/// What was compared. Only the first three run the library.
 #[derive(Clone, Copy, Debug, Default)]
 pub struct Counts {
+    /// First plans.
     pub plans: u64,
+    /// Short trees.
+    pub shorts: u64,
     pub judgements: u64,
     /// Runs of the programs.
     pub runs: u64,
@@ -32,24 +36,28 @@ pub struct Counts {
     /// Nets on which the tool's own gathered numbers are held to their
     /// definitions.
     pub gathered: u64,
+    /// Spanning trees that the tool measures itself, against the short tree.
+    pub spanning: u64,
     pub disagreements: u64,
 }
 
 impl Counts {
     pub fn calls(&self) -> u64 {
-        self.plans + self.judgements
+        self.plans + self.shorts + self.judgements
     }
 
     pub fn own(&self) -> u64 {
-        self.rivals + self.gathered
+        self.rivals + self.gathered + self.spanning
     }
 
     fn add(&mut self, other: &Counts) {
         self.plans += other.plans;
+        self.shorts += other.shorts;
         self.judgements += other.judgements;
         self.runs += other.runs;
         self.rivals += other.rivals;
         self.gathered += other.gathered;
+        self.spanning += other.spanning;
         self.disagreements += other.disagreements;
     }
 }
@@ -71,8 +79,8 @@ pub struct Session {
     seed: u64,
     /// By kind of case.
     pub counts: BTreeMap<&'static str, Counts>,
-    /// Answers by the refusal's number: of plan, of judge.
-    pub numbers: [[u64; LAST_NUMBER as usize + 1]; 2],
+    /// Answers by the refusal's number: of plan, of judge, of the short tree.
+    pub numbers: [[u64; LAST_NUMBER as usize + 1]; 3],
     /// Plans in which an edge above a branch point was split.
     pub split_above_branch_point: u64,
     /// Plans of nets with a pin just at the limit, and at an end of the range.
@@ -85,6 +93,7 @@ pub struct Session {
     /// Plans by what the two factors decide.
     pub metals: Decided,
     pub pairs: Pairs,
+    pub shorts: Shorts,
 }
 
 /// What a plan left in the output, beside its figures.
@@ -116,13 +125,22 @@ impl Session {
         self.counts.entry(self.kind).or_default()
     }
 
+    pub fn seed(&self) -> u64 {
+        self.seed
+    }
+
+    /// By the place of its call among the numbers.
+    pub(crate) fn count_number(&mut self, call: usize, answer: Answer) {
+        self.numbers[call][answer.number.min(LAST_NUMBER) as usize] += 1;
+    }
+
     /// Plans with an output of this length, on the library and on each
     /// reference that can.
     pub fn plan(&mut self, net: &[u8], length: usize) -> Planned {
         self.count().plans += 1;
         let mut out = fill(length + GUARD);
         let answer = library::plan(net, &mut out[..length]);
-        self.numbers[0][answer.number.min(LAST_NUMBER) as usize] += 1;
+        self.count_number(0, answer);
         let got = (answer, &out[..]);
         let plain = self.compare_with(PLAIN, net, got);
         let read = Net::read(net);
@@ -152,7 +170,12 @@ impl Session {
     }
 
     /// The reference's plan with an output of the same length.
-    fn compare_with(&mut self, by: Planner, net: &[u8], got: (Answer, &[u8])) -> Planned {
+    pub(crate) fn compare_with(
+        &mut self,
+        by: Planner,
+        net: &[u8],
+        got: (Answer, &[u8]),
+    ) -> Planned {
         let mut out = fill(got.1.len());
         let length = out.len() - GUARD;
         let answer = by.1(net, &mut out[..length]);
@@ -230,7 +253,7 @@ impl Session {
     pub fn judge(&mut self, net: &[u8], listing: &[u8]) -> Answer {
         self.count().judgements += 1;
         let answer = library::judge(net, listing);
-        self.numbers[1][answer.number.min(LAST_NUMBER) as usize] += 1;
+        self.count_number(1, answer);
         for (who, expected) in [
             ("slow", slow::judge(net, listing)),
             ("plain", plain::judge(net, listing)),
@@ -265,6 +288,6 @@ impl Session {
 }
 
 /// No listing has such bytes, so a byte that was written shows.
-fn fill(length: usize) -> Vec<u8> {
+pub(crate) fn fill(length: usize) -> Vec<u8> {
     (0..length).map(|i| 128 + (i * 31 % 127) as u8).collect()
 }

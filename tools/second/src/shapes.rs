@@ -81,3 +81,29 @@ pub const RANGE_END: [(&str, &[u8]); 1] = [(
     "marked-range-end-nm-1",
     b"root=60000000,0\nbranch=20\nwire=2,2\nneed=-80000000\nsinks=1\nsink=100000000,0,0\n",
 )];
+
+/// Small nets of request 6, worked out by hand in the reference's tests: sinks
+/// that tie, for the first place too; lower ends that tie; an edge above a branch
+/// point that is split; a branch point by its edge's upper end, and a detour.
+pub const SHORT: [(&str, &[u8]); 5] = [
+    (
+        "short-tied-sinks-3",
+        b"root=0,0\nbranch=20\nwire=2,2\nneed=-80\nsinks=3\nsink=1,3,0\nsink=2,-3,0\nsink=3,0,0\n",
+    ),
+    (
+        "short-tied-first-3",
+        b"root=0,0\nbranch=20\nwire=2,2\nneed=-80\nsinks=3\nsink=5,5,0\nsink=-5,0,0\nsink=5,0,0\n",
+    ),
+    (
+        "short-tied-ends-3",
+        b"root=0,0\nbranch=20\nwire=2,2\nneed=-80\nsinks=3\nsink=2,2,0\nsink=2,0,0\nsink=2,-3,0\n",
+    ),
+    (
+        "short-above-branch-point-3",
+        b"root=0,0\nbranch=20\nwire=2,2\nneed=-80\nsinks=3\nsink=10,1,0\nsink=10,-1,0\nsink=5,7,0\n",
+    ),
+    (
+        "short-detour-3",
+        b"root=0,0\nbranch=1\nwire=1,5\nneed=0\nsinks=3\nsink=4,0,100\nsink=4,6,100\nsink=3,7,100\n",
+    ),
+];

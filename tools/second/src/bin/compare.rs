@@ -88,20 +88,21 @@ fn nothing_ran(s: &Session) -> bool {
 /// The last line says what was compared, each count of its own.
 fn print_counts(s: &Session) {
     println!(
-        "{:>16} {:>9} {:>9} {:>9} {:>9} {:>9}",
-        "kind of case", "plans", "judged", "runs", "own", "disagree"
+        "{:>16} {:>9} {:>9} {:>9} {:>9} {:>9} {:>9}",
+        "kind of case", "plans", "short", "judged", "runs", "own", "disagree"
     );
     for (kind, counts) in &s.counts {
         println!(
-            "{kind:>16} {:>9} {:>9} {:>9} {:>9} {:>9}",
+            "{kind:>16} {:>9} {:>9} {:>9} {:>9} {:>9} {:>9}",
             counts.plans,
+            counts.shorts,
             counts.judgements,
             counts.runs,
             counts.own(),
             counts.disagreements
         );
     }
-    for (call, numbers) in ["plan", "judge"].iter().zip(&s.numbers) {
+    for (call, numbers) in ["plan", "judge", "plan_short"].iter().zip(&s.numbers) {
         let last = numbers.len() - 1;
         println!("{call} answers by number, 0 to {last}: {numbers:?}");
     }
@@ -123,18 +124,34 @@ fn print_counts(s: &Session) {
         "pairs of a net and a multiple of it: {} planned, {} refused for their need, {} judged",
         s.pairs.planned, s.pairs.refused, s.pairs.judged
     );
+    let shorts = &s.shorts;
+    println!(
+        "short trees held to the least spanning tree: {}, {} of them shorter; in {} an edge above a \
+         branch point was split; {} by slow too; {} of nets whose need is out of reach",
+        shorts.bounded,
+        shorts.shorter,
+        shorts.above_branch_point,
+        shorts.slow,
+        shorts.unreachable
+    );
     let total = s.total();
     println!(
         "measured by the tool itself: {} rival trees against the library's best; on {} nets \
          gathered numbers as defined, {} of vertices, {} of edges; {} of the plans made by \
-         gathering too",
-        total.rivals, total.gathered, s.gathered.vertices, s.gathered.edges, s.gathered_plans
+         gathering too; {} spanning trees against the short tree",
+        total.rivals,
+        total.gathered,
+        s.gathered.vertices,
+        s.gathered.edges,
+        s.gathered_plans,
+        total.spanning
     );
     println!(
-        "compared {} calls of the library ({} plans, {} judgements) and {} runs of the programs; \
-         {} disagreements",
+        "compared {} calls of the library ({} plans, {} short trees, {} judgements) and {} runs of \
+         the programs; {} disagreements",
         total.calls(),
         total.plans,
+        total.shorts,
         total.judgements,
         total.runs,
         total.disagreements

@@ -6,6 +6,7 @@ mod listings;
 mod metals;
 mod planned;
 mod scaled;
+mod short;
 mod spoilt;
 mod wire_line;
 
@@ -70,4 +71,16 @@ pub const ALL: &[Kind] = &[
     kind("scaled", 1, scaled::images),
     kind("scaled-down", 1, scaled::quotients),
     kind("scaled-listings", 1, scaled::listings),
+    kind("short-marked", 100, short::marked),
+    kind("short-random", 1, short::random),
+    kind("short-ties", 1, short::ties),
+    kind("short-streets", 1, short::streets),
+    kind("short-few", 1, short::few),
+    kind("short-large", 20, short::large),
+    kind("short-longest", 300, short::longest),
+    kind("short-need", 2, short::need),
+    kind("short-mirrored", 2, short::mirrored),
+    kind("short-outputs", 2, short::outputs),
+    kind("short-spoilt", 2, short::spoilt_nets),
+    kind("short-cuts", 50, short::cuts),
 ];
