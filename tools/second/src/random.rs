@@ -7,6 +7,14 @@ impl Random {
         Random(seed)
     }
 
+    /// One for each name, so that nothing drawn by it depends on the others.
+    pub fn named(seed: u64, name: &str) -> Random {
+        let seed = name.bytes().fold(seed, |seed, byte| {
+            seed.wrapping_mul(31).wrapping_add(byte.into())
+        });
+        Random(seed)
+    }
+
     pub fn draw(&mut self) -> u64 {
         self.0 = self.0.wrapping_add(0x9e37_79b9_7f4a_7c15);
         let mut z = self.0;

@@ -62,12 +62,14 @@ fn replay(
     Ok(())
 }
 
+/// Each kind has seeds of its own: one that is added leaves the others' cases as
+/// they were.
 fn rounds(s: &mut Session, seed: u64, rounds: u64) {
-    let mut seeds = Random::new(seed);
+    let mut seeds: Vec<Random> = ALL.iter().map(|k| Random::named(seed, k.name)).collect();
     for round in 0..rounds {
-        for kind in ALL {
-            let seed = seeds.draw();
+        for (kind, seeds) in ALL.iter().zip(&mut seeds) {
             if round % kind.every == 0 {
+                let seed = seeds.draw();
                 s.start(kind.name, seed);
                 (kind.run)(s, &mut Random::new(seed));
             }

@@ -128,14 +128,11 @@ fn draw(ranges: &Ranges, named: &str, wire: Option<(i64, i64)>, n: usize) -> Nam
         None => format!("{named}-{n}"),
     };
     let shape = named.trim_end_matches("-nm");
-    let seed = name.bytes().fold(SEED, |seed, byte| {
-        seed.wrapping_mul(31).wrapping_add(byte.into())
-    });
     let (_, make) = SHAPES
         .into_iter()
         .find(|(name, _)| *name == shape)
         .expect("a shape's name");
-    let mut net = make(&mut Random::new(seed), ranges, n);
+    let mut net = make(&mut Random::named(SEED, &name), ranges, n);
     if let Some((h, v)) = wire {
         net = metals::slacks_kept(ranges, net, Factors::new(h, v));
     }
