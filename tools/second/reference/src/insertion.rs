@@ -98,7 +98,7 @@ fn check_depths(tree: &Tree, inserted: &[usize]) {
 
 /// From the leaves up: a branch point moves once its children have settled,
 /// whatever their numbers.
-fn settle(tree: &mut Tree, lower_ends: impl Iterator<Item = usize>) {
+pub fn settle(tree: &mut Tree, lower_ends: impl Iterator<Item = usize>) {
     let root = tree.point[0];
     let children = children(tree, lower_ends);
     for v in leaves_up(&children) {
