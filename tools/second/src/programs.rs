@@ -1,7 +1,8 @@
-//! The two programs: what they print against what the reference says.
+//! The programs: what they print against what the reference says.
 
 use crate::damage;
 use crate::nets;
+use crate::planners::{self, Planner};
 use crate::random::Random;
 use crate::session::Session;
 use repeater_tree::{LISTING_LENGTH, NET_LENGTH};
@@ -11,6 +12,10 @@ use std::io::{Result, Write};
 use std::path::{Path, PathBuf};
 use std::process::{Command, Stdio};
 use std::sync::atomic::{AtomicUsize, Ordering};
+
+/// The programs that plan.
+pub const PLAN: &str = "plan";
+pub const PLAN_SHORT: &str = "plan_short";
 
 const CASES: u64 = 60;
 
@@ -49,9 +54,9 @@ impl Programs {
         &self.work
     }
 
-    /// What `plan` prints.
-    pub fn plan(&self, net: &[u8]) -> Result<Vec<u8>> {
-        let mut child = self.command("plan").stdin(Stdio::piped()).spawn()?;
+    /// What a program that plans prints.
+    pub fn plan(&self, program: &str, net: &[u8]) -> Result<Vec<u8>> {
+        let mut child = self.command(program).stdin(Stdio::piped()).spawn()?;
         let mut input = child.stdin.take().expect("piped");
         // In two pieces, as a pipe may deliver it. A program may stop reading
         // at the length limit, so a broken pipe is no fault.
@@ -82,10 +87,16 @@ pub fn compare(s: &mut Session, programs: &Programs, seed: u64) -> Result<()> {
     for i in 0..CASES {
         let mut r = Random::new(seed.wrapping_add(i));
         let (net, listing) = texts(&mut r, i);
-        s.start("program-plan", seed);
-        s.count().runs += 1;
-        let printed = programs.plan(&net)?;
-        report(s, &printed, &expected_plan(&net), &[("net", &net)]);
+        for (kind, program, planner) in [
+            ("program-plan", PLAN, planners::PLAIN),
+            ("program-short", PLAN_SHORT, planners::SHORT_PLAIN),
+        ] {
+            s.start(kind, seed);
+            s.count().runs += 1;
+            let printed = programs.plan(program, &net)?;
+            let expected = plan_text(planner, &net);
+            report(s, &printed, &expected, &[("net", &net)]);
+        }
         s.start("program-judge", seed);
         s.count().runs += 1;
         let printed = programs.judge(&net, &listing)?;
@@ -135,13 +146,14 @@ fn texts(r: &mut Random, i: u64) -> (Vec<u8>, Vec<u8>) {
     }
 }
 
-fn refused(a: Answer) -> Vec<u8> {
+pub fn refused(a: Answer) -> Vec<u8> {
     format!("refused={},{},{}\n", a.number, a.text, a.line).into_bytes()
 }
 
-fn expected_plan(net: &[u8]) -> Vec<u8> {
+/// What a program must print where this planner is right.
+fn plan_text(by: Planner, net: &[u8]) -> Vec<u8> {
     let mut out = vec![0; LISTING_LENGTH];
-    let answer = plain::plan(net, &mut out);
+    let answer = by.1(net, &mut out);
     out.truncate(answer.last as usize);
     if answer.number == 0 {
         out

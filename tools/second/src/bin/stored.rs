@@ -72,8 +72,17 @@ fn main() -> ExitCode {
         None => "",
     };
     println!(
-        "stored nets: {} with {} sinks by library, plain, gathered{programs}, {} by slow too; {} are multiples of others; {} differences",
-        report.nets, report.sinks, report.slow, report.images, report.faults.len()
+        "stored nets: {} with {} sinks by library, plain, gathered{programs}, {} by slow too; {} are \
+         multiples of others, {} ask for too much; {} short trees by library, plain{programs}, {} by \
+         slow too; {} differences",
+        report.nets,
+        report.sinks,
+        report.slow,
+        report.images,
+        report.unreachable,
+        report.shorts,
+        report.slow_shorts,
+        report.faults.len()
     );
     match report.faults.len() {
         0 => ExitCode::SUCCESS,

@@ -2,7 +2,7 @@
 //! lines and its table of refusals.
 
 use super::{run, Said};
-use crate::programs::Programs;
+use crate::programs::{Programs, PLAN, PLAN_SHORT};
 use repeater_tree::{LISTING_LENGTH, NET_LENGTH};
 use std::fs;
 use std::io::{Result, Write};
@@ -14,7 +14,34 @@ pub const A: &str =
 pub const LISTING: &str =
     "slack=0\nwire=32\nsinks=3\nleaf=1,5\nleaf=2,5\nleaf=3,4\nnode=4,0,4,0\nnode=5,4,4,0\n";
 
-/// A's pins, later due, where a nanometre upward costs three times as much.
+/// The listing of A's short tree.
+const SHORT: &str =
+    "slack=-10\nwire=26\nsinks=3\nleaf=1,5\nleaf=2,4\nleaf=3,5\nnode=4,0,4,0\nnode=5,4,10,0\n";
+
+/// A program that plans.
+pub struct Planner {
+    pub program: &'static str,
+    /// What it prints for A.
+    pub listing: &'static str,
+    /// The extension of its stored listings.
+    pub stored: &'static str,
+}
+
+pub const PLANNERS: [Planner; 2] = [
+    Planner {
+        program: PLAN,
+        listing: LISTING,
+        stored: "tree",
+    },
+    Planner {
+        program: PLAN_SHORT,
+        listing: SHORT,
+        stored: "short",
+    },
+];
+
+/// A's pins, later due, where a nanometre upward costs three times as much. Both
+/// plans are the same.
 const TWO_METALS: &str =
     "root=0,0\nbranch=20\nwire=2,6\nneed=0\nsinks=3\nsink=10,0,100\nsink=4,6,110\nsink=10,10,150\n";
 const TWO_METALS_LISTING: &str =
@@ -28,14 +55,14 @@ enum Found {
 }
 
 enum Given {
-    /// A net on standard input.
-    Plan(String),
+    /// A program and the net on its standard input.
+    Plan(&'static str, String),
     /// net.txt and tree.txt.
     Judge(Found, Found),
 }
 
 pub struct Case {
-    pub name: &'static str,
+    pub name: String,
     given: Given,
     pub expected: Said,
 }
@@ -43,8 +70,8 @@ pub struct Case {
 impl Case {
     pub fn run(&self, programs: &Programs) -> Result<Said> {
         match &self.given {
-            Given::Plan(net) => {
-                let mut child = programs.command("plan").stdin(Stdio::piped()).spawn()?;
+            Given::Plan(program, net) => {
+                let mut child = programs.command(program).stdin(Stdio::piped()).spawn()?;
                 // Over the limit a program reads no further: a broken pipe is no fault.
                 let _ = child.stdin.take().expect("piped").write_all(net.as_bytes());
                 run::finish(child)
@@ -72,16 +99,17 @@ fn put(programs: &Programs, name: &str, found: &Found) -> Result<()> {
 }
 
 pub fn all() -> Vec<Case> {
-    let mut all = plans();
+    let mut all: Vec<Case> = PLANNERS.iter().flat_map(plans).collect();
+    all.extend(needs());
     all.extend(net_files());
     all.extend(listings());
     all
 }
 
-fn plan(name: &'static str, net: &str, out: &str, err: &str) -> Case {
+fn plan(program: &'static str, name: &str, net: &str, out: &str, err: &str) -> Case {
     Case {
-        name,
-        given: Given::Plan(net.into()),
+        name: format!("{program} {name}"),
+        given: Given::Plan(program, net.into()),
         expected: Said::of(out, err),
     }
 }
@@ -92,61 +120,71 @@ fn with(old: &str, new: &str) -> String {
     A.replacen(old, new, 1)
 }
 
-fn plans() -> Vec<Case> {
-    let missing =
-        "standard input:1: the line due here is missing, lacks its newline, or is misspelt\n";
-    let long = "standard input: the text is over its length\n";
+/// The one refuses a need that no tree reaches, the other does not look at it.
+fn needs() -> [Case; 2] {
+    let (name, net) = ("A with need=1", with("need=0", "need=1"));
+    let told = "standard input:4: no legal tree has the needed slack\n";
+    [
+        plan(PLAN, name, &net, "refused=5,1,4\n", told),
+        plan(PLAN_SHORT, name, &net, SHORT, ""),
+    ]
+}
+
+/// What both have in common: listings, and how the net is refused.
+fn plans(planner: &Planner) -> Vec<Case> {
+    let misspelt = "the line due here is missing, lacks its newline, or is misspelt";
+    let listed =
+        |name: &str, net: &str, listing: &str| plan(planner.program, name, net, listing, "");
+    let refused = |name: &str, net: &str, refusal: &str, words: &str| {
+        let out = format!("refused={refusal}\n");
+        let err = format!("standard input:{words}\n");
+        plan(planner.program, name, net, &out, &err)
+    };
     vec![
-        plan("plan A", A, LISTING, ""),
-        plan(
-            "plan A with need=1",
-            &with("need=0", "need=1"),
-            "refused=5,1,4\n",
-            "standard input:4: no legal tree has the needed slack\n",
-        ),
-        plan("plan nothing", "", "refused=2,1,1\n", missing),
-        plan(
-            "plan branch=0",
+        listed("A", A, planner.listing),
+        listed("two metals", TWO_METALS, TWO_METALS_LISTING),
+        refused("nothing", "", "2,1,1", &format!("1: {misspelt}")),
+        refused(
+            "branch=0",
             &with("branch=20", "branch=0"),
-            "refused=3,1,2\n",
-            "standard input:2: a number is out of range\n",
+            "3,1,2",
+            "2: a number is out of range",
         ),
-        plan("plan two metals", TWO_METALS, TWO_METALS_LISTING, ""),
-        plan(
-            "plan wire=2",
+        refused(
+            "wire=2",
             &with("wire=2,2", "wire=2"),
-            "refused=2,1,3\n",
-            "standard input:3: the line due here is missing, lacks its newline, or is misspelt\n",
+            "2,1,3",
+            &format!("3: {misspelt}"),
         ),
-        plan(
-            "plan wire=2,0",
+        refused(
+            "wire=2,0",
             &with("wire=2,2", "wire=2,0"),
-            "refused=3,1,3\n",
-            "standard input:3: a number is out of range\n",
+            "3,1,3",
+            "3: a number is out of range",
         ),
-        plan(
-            "plan a far pin",
+        refused(
+            "a far pin",
             &with("sink=4,6,60", "sink=40000000,1,60"),
-            "refused=13,1,7\n",
-            "standard input:7: the sink is too far from the root\n",
+            "13,1,7",
+            "7: the sink is too far from the root",
         ),
-        plan(
-            "plan as many bytes as a net may have",
+        refused(
+            "as many bytes as a net may have",
             &padded(A, NET_LENGTH),
-            "refused=4,1,9\n",
-            "standard input:9: bytes follow the last line\n",
+            "4,1,9",
+            "9: bytes follow the last line",
         ),
-        plan(
-            "plan one byte more",
+        refused(
+            "one byte more",
             &padded(A, NET_LENGTH + 1),
-            "refused=1,1,0\n",
-            long,
+            "1,1,0",
+            " the text is over its length",
         ),
-        plan(
-            "plan many bytes more",
+        refused(
+            "many bytes more",
             &padded(A, 4 * NET_LENGTH),
-            "refused=1,1,0\n",
-            long,
+            "1,1,0",
+            " the text is over its length",
         ),
     ]
 }
@@ -156,9 +194,9 @@ fn padded(text: &str, length: usize) -> String {
     format!("{text}{}", "x".repeat(length - text.len()))
 }
 
-fn judge(name: &'static str, net: Found, listing: Found, out: &str, err: &str) -> Case {
+fn judge(name: &str, net: Found, listing: Found, out: &str, err: &str) -> Case {
     Case {
-        name,
+        name: name.to_string(),
         given: Given::Judge(net, listing),
         expected: Said::of(out, err),
     }
@@ -228,11 +266,17 @@ fn net_files() -> Vec<Case> {
 
 /// A's listing, and listings of other figures or parents over A.
 fn listings() -> Vec<Case> {
-    let rows: [(&'static str, String, &str, &str); 11] = [
+    let rows: [(&str, String, &str, &str); 12] = [
         (
             "judge A's listing",
             LISTING.into(),
             "slack=0\nwire=32\nbest=0\n",
+            "",
+        ),
+        (
+            "judge A's short tree",
+            SHORT.into(),
+            "slack=-10\nwire=26\nbest=0\n",
             "",
         ),
         (
@@ -296,7 +340,7 @@ fn listings() -> Vec<Case> {
             " the text is over its length",
         ),
     ];
-    let case = |(name, listing, out, err): (&'static str, String, &str, &str)| match err {
+    let case = |(name, listing, out, err): (&str, String, &str, &str)| match err {
         "" => judge(name, text(A), Found::Text(listing), out, ""),
         _ => judge(
             name,

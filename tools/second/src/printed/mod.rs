@@ -10,6 +10,7 @@ mod system;
 mod tests;
 
 use crate::programs::Programs;
+use cases::PLANNERS;
 use std::io::Result;
 use std::path::Path;
 
@@ -44,19 +45,22 @@ pub fn check(programs: &Programs, stored: &Path, reads: Option<&Path>) -> Result
     for case in cases::all() {
         report.texts += 1;
         let said = case.run(programs)?;
-        report.compare(case.name, &said, &case.expected);
+        report.compare(&case.name, &said, &case.expected);
     }
-    for (name, stream) in streams::all() {
-        report.streams += 1;
-        if let Err(fault) = stream(programs, stored)? {
-            report.faults.push(format!("{name}: {fault}"));
+    for by in &PLANNERS {
+        for (name, stream) in streams::all() {
+            report.streams += 1;
+            if let Err(fault) = stream(programs, by, stored)? {
+                let program = by.program;
+                report.faults.push(format!("{program}, {name}: {fault}"));
+            }
         }
-    }
-    if let Some(object) = reads {
-        for reads in reads::all() {
-            report.reads += 1;
-            let said = reads.run(programs, object)?;
-            report.compare(reads.name, &said, &reads.expected);
+        if let Some(object) = reads {
+            for reads in reads::all(by) {
+                report.reads += 1;
+                let said = reads.run(programs, object)?;
+                report.compare(&reads.name, &said, &reads.expected);
+            }
         }
     }
     Ok(report)

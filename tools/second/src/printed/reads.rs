@@ -1,7 +1,7 @@
 //! Reads that a signal interrupts, or that fail, by the object of `reads.c`
 //! before the C library's.
 
-use super::cases::{A, LISTING};
+use super::cases::{Planner, A};
 use super::{run, Said};
 use crate::programs::Programs;
 use std::io::{Result, Write};
@@ -12,22 +12,34 @@ use std::process::Stdio;
 const MOST: usize = 1_000;
 
 pub struct Reads {
-    pub name: &'static str,
+    pub name: String,
+    program: &'static str,
     letters: String,
     pub expected: Said,
 }
 
-pub fn all() -> [Reads; 5] {
-    let reads = |name, letters: String, out: &str, err: &str| Reads {
-        name,
+pub fn all(by: &Planner) -> [Reads; 5] {
+    let reads = |name: &str, letters: String, out: &str, err: &str| Reads {
+        name: format!("{}, {name}", by.program),
+        program: by.program,
         letters,
         expected: Said::of(out, err),
     };
     let interrupted = "standard input: Interrupted system call\n";
     let failed = "standard input: Input/output error\n";
     [
-        reads("every other read interrupted", "i1".repeat(40), LISTING, ""),
-        reads("reads interrupted often", "i".repeat(MOST - 1), LISTING, ""),
+        reads(
+            "every other read interrupted",
+            "i1".repeat(40),
+            by.listing,
+            "",
+        ),
+        reads(
+            "reads interrupted often",
+            "i".repeat(MOST - 1),
+            by.listing,
+            "",
+        ),
         reads(
             "reads interrupted too often",
             "i".repeat(MOST),
@@ -42,7 +54,7 @@ pub fn all() -> [Reads; 5] {
 impl Reads {
     pub fn run(&self, programs: &Programs, object: &Path) -> Result<Said> {
         let mut child = programs
-            .command("plan")
+            .command(self.program)
             .env("LD_PRELOAD", object)
             .env("READS", &self.letters)
             .stdin(Stdio::piped())

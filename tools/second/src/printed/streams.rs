@@ -1,7 +1,7 @@
 //! Streams that take nothing or a part, and input that comes in pieces, is
 //! interrupted, or is typed.
 
-use super::cases::{A, LISTING};
+use super::cases::{Planner, A};
 use super::{run, same, system, Said};
 use crate::programs::Programs;
 use std::fs::{self, File};
@@ -14,8 +14,8 @@ use std::time::Duration;
 /// What is wrong.
 type Fault = std::result::Result<(), String>;
 
-/// A try with the programs and the stored nets.
-type Stream = fn(&Programs, &Path) -> Result<Fault>;
+/// A try with one of the programs and the stored nets.
+type Stream = fn(&Programs, &Planner, &Path) -> Result<Fault>;
 
 pub fn all() -> [(&'static str, Stream); 7] {
     [
@@ -34,17 +34,17 @@ fn pause() {
     sleep(Duration::from_millis(1));
 }
 
-/// `plan`, its standard output being this, with the whole net as its input.
-fn plan_into(programs: &Programs, out: File, net: &[u8]) -> Result<Said> {
-    let mut plan = programs.command("plan");
+/// The program, its standard output being this, with the whole net as its input.
+fn plan_into(programs: &Programs, by: &Planner, out: File, net: &[u8]) -> Result<Said> {
+    let mut plan = programs.command(by.program);
     let mut child = plan.stdin(Stdio::piped()).stdout(out).spawn()?;
     child.stdin.take().expect("piped").write_all(net)?;
     run::finish(child)
 }
 
-fn full_disk(programs: &Programs, _: &Path) -> Result<Fault> {
+fn full_disk(programs: &Programs, by: &Planner, _: &Path) -> Result<Fault> {
     let full = File::options().write(true).open("/dev/full")?;
-    let said = plan_into(programs, full, A.as_bytes())?;
+    let said = plan_into(programs, by, full, A.as_bytes())?;
     let expected = Said::of("", "standard output: No space left on device\n");
     Ok(same(&said, &expected))
 }
@@ -58,24 +58,24 @@ fn drained(mut pipe: File) -> Result<Vec<u8>> {
     }
 }
 
-fn full_pipe(programs: &Programs, _: &Path) -> Result<Fault> {
+fn full_pipe(programs: &Programs, by: &Planner, _: &Path) -> Result<Fault> {
     let (far, mut near) = system::small_pipe()?;
     let mut filled = 0;
     while let Ok(more) = near.write(b"full") {
         filled += more;
     }
-    let mut said = plan_into(programs, near, A.as_bytes())?;
+    let mut said = plan_into(programs, by, near, A.as_bytes())?;
     said.out = drained(far)?.split_off(filled);
     let expected = Said::of("", "standard output: Resource temporarily unavailable\n");
     Ok(same(&said, &expected))
 }
 
 /// What went out is the front of the right answer, and no more is sent after it.
-fn cut_short(programs: &Programs, stored: &Path) -> Result<Fault> {
+fn cut_short(programs: &Programs, by: &Planner, stored: &Path) -> Result<Fault> {
     let net = fs::read(stored.join("as-near-512.net"))?;
-    let listing = fs::read(stored.join("as-near-512.tree"))?;
+    let listing = fs::read(stored.join(format!("as-near-512.{}", by.stored)))?;
     let (far, near) = system::small_pipe()?;
-    let mut said = plan_into(programs, near, &net)?;
+    let mut said = plan_into(programs, by, near, &net)?;
     said.out = drained(far)?;
     Ok(is_cut(&said, &listing))
 }
@@ -92,25 +92,25 @@ pub fn is_cut(said: &Said, answer: &[u8]) -> Fault {
     same(said, &expected)
 }
 
-fn unreadable(programs: &Programs, stored: &Path) -> Result<Fault> {
+fn unreadable(programs: &Programs, by: &Planner, stored: &Path) -> Result<Fault> {
     let child = programs
-        .command("plan")
+        .command(by.program)
         .stdin(File::open(stored)?)
         .spawn()?;
     let expected = Said::of("", "standard input: Is a directory\n");
     Ok(same(&run::finish(child)?, &expected))
 }
 
-/// `plan`, with what is done to it while it reads A.
-fn fed(programs: &Programs, feed: fn(&mut Child) -> Result<()>) -> Result<Fault> {
-    let mut child = programs.command("plan").stdin(Stdio::piped()).spawn()?;
+/// The program, with what is done to it while it reads A.
+fn fed(programs: &Programs, by: &Planner, feed: fn(&mut Child) -> Result<()>) -> Result<Fault> {
+    let mut child = programs.command(by.program).stdin(Stdio::piped()).spawn()?;
     feed(&mut child)?;
     drop(child.stdin.take());
-    Ok(same(&run::finish(child)?, &Said::of(LISTING, "")))
+    Ok(same(&run::finish(child)?, &Said::of(by.listing, "")))
 }
 
-fn byte_by_byte(programs: &Programs, _: &Path) -> Result<Fault> {
-    fed(programs, |child| {
+fn byte_by_byte(programs: &Programs, by: &Planner, _: &Path) -> Result<Fault> {
+    fed(programs, by, |child| {
         let input = child.stdin.as_mut().expect("piped");
         for byte in A.as_bytes() {
             input.write_all(&[*byte])?;
@@ -120,8 +120,8 @@ fn byte_by_byte(programs: &Programs, _: &Path) -> Result<Fault> {
     })
 }
 
-fn stopped(programs: &Programs, _: &Path) -> Result<Fault> {
-    fed(programs, |child| {
+fn stopped(programs: &Programs, by: &Planner, _: &Path) -> Result<Fault> {
+    fed(programs, by, |child| {
         for line in A.split_inclusive('\n') {
             pause();
             system::interrupt(child)?;
@@ -133,10 +133,10 @@ fn stopped(programs: &Programs, _: &Path) -> Result<Fault> {
 }
 
 /// One ^D at the start of a line ends the input.
-fn typed(programs: &Programs, _: &Path) -> Result<Fault> {
+fn typed(programs: &Programs, by: &Planner, _: &Path) -> Result<Fault> {
     let (mut keys, line) = system::terminal()?;
-    let child = programs.command("plan").stdin(line).spawn()?;
+    let child = programs.command(by.program).stdin(line).spawn()?;
     keys.write_all(A.as_bytes())?;
     keys.write_all(b"\x04")?;
-    Ok(same(&run::finish(child)?, &Said::of(LISTING, "")))
+    Ok(same(&run::finish(child)?, &Said::of(by.listing, "")))
 }

@@ -8,12 +8,12 @@ use std::path::PathBuf;
 
 const STORED: &str = concat!(env!("CARGO_MANIFEST_DIR"), "/../stored");
 
-/// A folder in which both programs are this shell script.
+/// A folder in which every program is this shell script.
 fn scripts(name: &str, script: &str) -> PathBuf {
     let name = format!("repeater_tree_{name}_{}", std::process::id());
     let folder = std::env::temp_dir().join(name);
     fs::create_dir_all(&folder).unwrap();
-    for program in ["plan", "judge"] {
+    for program in ["plan", "plan_short", "judge"] {
         let file = folder.join(program);
         fs::write(&file, format!("#!/bin/sh\n{script}\n")).unwrap();
         fs::set_permissions(&file, fs::Permissions::from_mode(0o755)).unwrap();
@@ -34,13 +34,26 @@ fn told(name: &str, script: &str) -> Vec<String> {
 #[test]
 fn silent_programs_fail_everywhere() {
     let faults = told("silent", "cat > /dev/null");
-    assert_eq!(faults.len(), cases::all().len() + streams::all().len());
+    let streams = PLANNERS.len() * streams::all().len();
+    assert_eq!(faults.len(), cases::all().len() + streams);
 }
 
 #[test]
 fn a_refusal_without_words_is_told() {
     let faults = told("wordless", "cat > /dev/null; echo refused=5,1,4");
     assert!(faults.contains(&"plan A with need=1".to_string()));
+}
+
+/// The first plan's answer is not the short tree's: A's listings differ, and a
+/// need out of reach is no refusal there.
+#[test]
+fn one_program_for_the_other_is_told() {
+    let listing = cases::LISTING.escape_default().to_string();
+    let faults = told("other", &format!("cat > /dev/null; printf '{listing}'"));
+    assert!(!faults.contains(&"plan A".to_string()));
+    for name in ["plan_short A", "plan_short A with need=1"] {
+        assert!(faults.contains(&name.to_string()), "{faults:?}");
+    }
 }
 
 #[test]

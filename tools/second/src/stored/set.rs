@@ -5,12 +5,13 @@ use crate::nets;
 use crate::random::Random;
 use crate::ranges::{Ranges, MICROMETRES, NANOMETRES};
 use crate::scaled;
-use crate::shapes::{MARKED, METALS, RANGE_END, SHAPES};
+use crate::shapes::{MARKED, METALS, RANGE_END, SHAPES, SHORT};
+use crate::streets::STREETS;
 use second_reference::kraft;
-use second_reference::net::{Factors, Net};
+use second_reference::net::{Factors, Net, NEED};
 
 /// The set has so many; more may come, and none may go.
-pub const LEAST_NETS: usize = 149;
+pub const LEAST_NETS: usize = 166;
 
 const SEED: u64 = 20_090_401;
 
@@ -61,6 +62,41 @@ const NANOMETRE_NETS: [Asked; 17] = [
     ("path-near-root", None, 65),
 ];
 
+/// Nets by how their pins stand to each other, which decides their short trees.
+const STREET_NETS: [Asked; 7] = [
+    ("grid", None, 64),
+    ("line", None, 17),
+    ("comb", None, 64),
+    ("columns", None, 65),
+    ("clusters", Some((120, 200)), 65),
+    ("ring", None, 17),
+    ("stairs", Some((3, 2)), 16),
+];
+
+/// Nets whose need is out of reach.
+const UNREACHABLE_NETS: [(&str, usize); 4] = [
+    ("common", 12),
+    ("coincident", 16),
+    ("spread-out", 65),
+    ("comb", 17),
+];
+
+/// What such a net's name has before its number of sinks.
+const UNREACHABLE: &str = "-unreachable";
+
+/// Up to so many sinks every net has its short tree stored, above that these.
+const MOST_SHORT: usize = 65;
+pub const LARGE_SHORT: [&str; 8] = [
+    "common-512",
+    "tied-512",
+    "coincident-512",
+    "spread-out-512",
+    "as-near-512",
+    "as-near-times-1000-512",
+    "longest-nm-512",
+    "cornered-nm-wire-3-2-512",
+];
+
 /// Stored nets of which the set has the image too.
 const IMAGES_OF: [&str; 7] = [
     "marked-a-3",
@@ -94,6 +130,10 @@ pub fn drawn() -> Vec<Named> {
     for (shape, wire, n) in NANOMETRE_NETS {
         all.push(draw(&NANOMETRES, &format!("{shape}-nm"), wire, n));
     }
+    for (shape, wire, n) in STREET_NETS {
+        all.push(draw(&NANOMETRES, &format!("{shape}-nm"), wire, n));
+    }
+    all.extend(unreachable());
     let images: Vec<Named> = IMAGES_OF.iter().map(|name| image(&all, name)).collect();
     all.extend(images);
     all
@@ -101,11 +141,38 @@ pub fn drawn() -> Vec<Named> {
 
 /// The marked nets and the longest.
 fn given() -> Vec<Named> {
-    let marked = MARKED.iter().chain(&METALS).chain(&RANGE_END);
+    let marked = MARKED.iter().chain(&METALS).chain(&RANGE_END).chain(&SHORT);
     let marked = marked.map(|(name, net)| (name.to_string(), net.to_vec()));
     let longest = [("longest-512", MICROMETRES), ("longest-nm-512", NANOMETRES)];
     let longest = longest.map(|(name, ranges)| (name.to_string(), nets::longest(&ranges).text()));
     marked.chain(longest).collect()
+}
+
+/// One more is needed than any tree has, or the most that can be asked for.
+fn unreachable() -> Vec<Named> {
+    let (_, a) = MARKED[0];
+    let drawn = UNREACHABLE_NETS.map(|(shape, n)| {
+        let (name, net) = draw(&NANOMETRES, &format!("{shape}-nm{UNREACHABLE}"), None, n);
+        (name, Net::read(&net).expect("a net's text"))
+    });
+    let a = Net::read(a).expect("a marked net");
+    let all = [(format!("marked-a{UNREACHABLE}-3"), a)].into_iter();
+    let asking = |(i, (name, mut net)): (usize, (String, Net))| {
+        net.need = [kraft::maximum(&net) as i64 + 1, NEED.1][i % 2];
+        (name, net.text())
+    };
+    all.chain(drawn).enumerate().map(asking).collect()
+}
+
+/// Whether the net has a first plan.
+pub fn is_reachable(name: &str) -> bool {
+    !name.contains(UNREACHABLE)
+}
+
+/// Whether the net's short tree is stored.
+pub fn has_short(name: &str) -> bool {
+    let sinks = name.rsplit_once('-').map(|(_, n)| n.parse());
+    matches!(sinks, Some(Ok(..=MOST_SHORT))) || LARGE_SHORT.contains(&name)
 }
 
 fn image(all: &[Named], name: &str) -> Named {
@@ -127,9 +194,10 @@ fn draw(ranges: &Ranges, named: &str, wire: Option<(i64, i64)>, n: usize) -> Nam
         Some((h, v)) => format!("{named}-wire-{h}-{v}-{n}"),
         None => format!("{named}-{n}"),
     };
-    let shape = named.trim_end_matches("-nm");
+    let shape = named.trim_end_matches(UNREACHABLE).trim_end_matches("-nm");
     let (_, make) = SHAPES
         .into_iter()
+        .chain(STREETS)
         .find(|(name, _)| *name == shape)
         .expect("a shape's name");
     let mut net = make(&mut Random::named(SEED, &name), ranges, n);

@@ -1,6 +1,6 @@
 //! A folder of a few stored nets, then spoilt in each way.
 
-use super::{check, drawn, path, write, Report, LEAST_NETS, NET, TREE};
+use super::{check, drawn, has_short, path, set, write, Report, LEAST_NETS, NET, SHORT, TREE};
 use std::fs;
 use std::path::{Path, PathBuf};
 
@@ -15,6 +15,9 @@ impl Drop for Folder {
 
 const NAME: &str = "near-root-3";
 const NETS: usize = 3;
+/// How many short trees are stored.
+const SHORT_TREES: usize = 146;
+const ALL: [&str; 3] = [NET, TREE, SHORT];
 
 fn named(names: &[&str]) -> Vec<(String, Vec<u8>)> {
     let mut nets = drawn();
@@ -64,7 +67,7 @@ fn the_set_is_what_is_stored() {
     }
 }
 
-/// The original's net with its listing, so that both planners' and judges'
+/// The original's net with its listings, so that all planners' and judges'
 /// words are right and the law alone is broken; then no original at all.
 #[test]
 fn an_image_of_another_net_is_told() {
@@ -72,14 +75,14 @@ fn an_image_of_another_net_is_told() {
     let folder = folder_of("image", &named(&[name, original]));
     let report = check(&folder.0, 2, None).unwrap();
     assert_eq!((report.images, report.faults.len()), (1, 0));
-    for extension in [NET, TREE] {
+    for extension in ALL {
         let [from, to] = [original, name].map(|name| path(&folder.0, name, extension));
         fs::copy(from, to).unwrap();
     }
     let told = |what: &str| format!("{name}: its {what} is not 1000 times {original}'s");
     let faults = check(&folder.0, 2, None).unwrap().faults;
-    assert_eq!(faults, [told("net"), told("listing")]);
-    for extension in [NET, TREE] {
+    assert_eq!(faults, [told("net"), told("listing"), told("short tree")]);
+    for extension in ALL {
         fs::remove_file(path(&folder.0, original, extension)).unwrap();
     }
     let faults = check(&folder.0, 1, None).unwrap().faults;
@@ -91,23 +94,35 @@ fn what_was_written_agrees() {
     let report = stored("agrees").check();
     assert!(report.faults.is_empty(), "{:?}", report.faults);
     assert_eq!((report.nets, report.sinks, report.slow), (NETS, 8, NETS));
+    assert_eq!((report.shorts, report.slow_shorts), (NETS, NETS));
 }
 
 /// Each byte in turn: every planner differs there.
-#[test]
-fn a_changed_byte_is_told() {
-    let folder = stored("byte");
-    let good = fs::read(folder.file(TREE)).unwrap();
+fn told_at_each_byte(test: &str, extension: &str, what: &str, planners: &[&str]) {
+    let folder = stored(test);
+    let good = fs::read(folder.file(extension)).unwrap();
     for at in 0..good.len() {
         let mut bad = good.clone();
         bad[at] ^= 1;
-        fs::write(folder.file(TREE), bad).unwrap();
+        fs::write(folder.file(extension), bad).unwrap();
         let faults = folder.check().faults;
-        for who in ["library", "plain", "gathered", "slow"] {
-            let told = format!("{NAME}: {who}'s listing differs from byte {at} on");
+        for who in planners {
+            let told = format!("{NAME}: {who}'s {what} differs from byte {at} on");
             assert!(faults.contains(&told), "{told} is not in {faults:?}");
         }
     }
+}
+
+#[test]
+fn a_changed_byte_is_told() {
+    let planners = ["library", "plain", "gathered", "slow"];
+    told_at_each_byte("byte", TREE, "listing", &planners);
+}
+
+#[test]
+fn a_changed_byte_of_a_short_tree_is_told() {
+    let planners = ["library", "plain", "slow"];
+    told_at_each_byte("short_byte", SHORT, "short tree", &planners);
 }
 
 #[test]
@@ -124,7 +139,11 @@ fn a_cut_listing_is_told() {
 
 #[test]
 fn a_missing_file_is_told() {
-    for (extension, told) in [(TREE, "no listing"), (NET, "no net")] {
+    for (extension, told) in [
+        (TREE, "no listing"),
+        (SHORT, "no short tree"),
+        (NET, "no net"),
+    ] {
         let folder = stored(extension);
         fs::remove_file(folder.file(extension)).unwrap();
         let faults = folder.check().faults;
@@ -135,7 +154,7 @@ fn a_missing_file_is_told() {
 #[test]
 fn too_few_nets_are_told() {
     let folder = stored("few");
-    for extension in [NET, TREE] {
+    for extension in ALL {
         fs::remove_file(folder.file(extension)).unwrap();
     }
     assert_eq!(folder.check().faults, ["2 nets, at least 3 are due"]);
@@ -150,4 +169,51 @@ fn what_is_stored_is_kept() {
     assert_eq!((report.nets, report.faults.len()), (0, 0));
     assert_eq!(fs::read(folder.file(TREE)).unwrap(), b"x");
     assert!(!folder.file(NET).exists());
+}
+
+/// A short tree is added to what is stored, and then kept too.
+#[test]
+fn a_short_tree_is_added() {
+    let folder = stored("added");
+    let good = fs::read(folder.file(SHORT)).unwrap();
+    fs::remove_file(folder.file(SHORT)).unwrap();
+    for (nets, then) in [(1, &good[..]), (0, b"x")] {
+        assert_eq!(write(&folder.0, &few(), None).unwrap().nets, nets);
+        assert!(fs::read(folder.file(SHORT)).unwrap() == good);
+        fs::write(folder.file(SHORT), then).unwrap();
+    }
+    assert_eq!(write(&folder.0, &few(), None).unwrap().nets, 0);
+    assert_eq!(fs::read(folder.file(SHORT)).unwrap(), b"x");
+}
+
+/// Net A's need is reached, so its planners do not refuse it.
+#[test]
+fn a_need_within_reach_is_told() {
+    let name = "marked-a-unreachable-3";
+    let folder = folder_of("reach", &named(&[name]));
+    let report = check(&folder.0, 1, None).unwrap();
+    let found = (report.unreachable, report.shorts, report.faults.len());
+    assert_eq!(found, (1, 1, 0));
+    let file = path(&folder.0, name, NET);
+    let net = fs::read_to_string(&file).unwrap();
+    fs::write(&file, net.replace("need=1", "need=0")).unwrap();
+    let faults = check(&folder.0, 1, None).unwrap().faults;
+    assert_eq!(faults.len(), 4, "{faults:?}");
+    for (fault, who) in faults.iter().zip(["library", "plain", "gathered", "slow"]) {
+        assert!(fault.starts_with(&format!("{name}: {who} gives Answer")));
+    }
+    fs::write(path(&folder.0, name, TREE), "x").unwrap();
+    let told = format!("{name}: a listing that is not due");
+    assert!(check(&folder.0, 1, None).unwrap().faults.contains(&told));
+}
+
+/// Every net up to some size has its short tree, and those that are named.
+#[test]
+fn short_trees_are_due() {
+    let all: Vec<String> = drawn().into_iter().map(|(name, _)| name).collect();
+    for name in set::LARGE_SHORT {
+        assert!(all.iter().any(|n| n == name), "{name}");
+    }
+    let due = all.iter().filter(|name| has_short(name)).count();
+    assert_eq!((due, all.len()), (SHORT_TREES, LEAST_NETS));
 }
