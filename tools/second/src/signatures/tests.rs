@@ -190,6 +190,39 @@ fn a_missing_parameter_is_told() {
     );
 }
 
+/// A function is held to the source whatever its name: one that only the source
+/// has is missing in the header, as an inline function, and in the wrapper, and
+/// does not mean its inline function; one that it has not is told too.
+#[test]
+fn a_function_more_is_told() {
+    const MORE: &str = "repeater_tree_plan_more";
+    let declared = |source: &str| {
+        let from = source.find("fn repeater_tree_plan(").unwrap();
+        let to = from + source[from..].find("-> u8").unwrap() + "-> u8".len();
+        source[from..to].replace("repeater_tree_plan", MORE)
+    };
+    let mut rattle = sources();
+    let more = declared(&rattle.library);
+    rattle.library += &format!("#[no_mangle]\npub extern \"C\" {more}\n{{\n}}\n");
+    let report = compare(&rattle);
+    assert_eq!(report.functions, compare(&sources()).functions + 1);
+    let differences = report.differences;
+    assert_eq!(differences.len(), 4, "{differences:?}");
+    for file in [HEADER, CALLS, "the inline functions of"] {
+        let missing =
+            |d: &String| d.starts_with(file) && d.ends_with(&format!("{MORE} is missing"));
+        assert!(differences.iter().any(missing), "{differences:?}");
+    }
+    told(
+        differences,
+        &format!("{MORE} does not mean its inline function"),
+    );
+    let mut rust = sources();
+    let more = declared(&rust.calls);
+    rust.calls += &format!("extern \"C\" {{\n{more};\n}}\n");
+    told(compare(&rust).differences, &format!("{MORE} is not in"));
+}
+
 /// The last declaration of a function in the header is its inline function.
 #[test]
 fn an_inline_function_that_differs_is_told() {
