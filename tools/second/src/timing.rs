@@ -13,9 +13,18 @@ pub type Rival<'a, T> = &'a mut dyn FnMut(&T);
 /// time on each. The rivals take turns, so that a slow moment of the machine
 /// hits all of them.
 pub fn compare<T, const N: usize>(inputs: &[T], rivals: &mut [Rival<T>; N]) -> [f64; N] {
+    compare_in(ROUNDS, inputs, rivals)
+}
+
+/// In so many rounds.
+pub fn compare_in<T, const N: usize>(
+    rounds: usize,
+    inputs: &[T],
+    rivals: &mut [Rival<T>; N],
+) -> [f64; N] {
     let mut sums = [0.0; N];
     for input in inputs {
-        let times = on_one(input, rivals);
+        let times = on_one(rounds, input, rivals);
         for (sum, time) in sums.iter_mut().zip(times) {
             *sum += time;
         }
@@ -23,13 +32,13 @@ pub fn compare<T, const N: usize>(inputs: &[T], rivals: &mut [Rival<T>; N]) -> [
     sums.map(|sum| sum / inputs.len() as f64)
 }
 
-fn on_one<T, const N: usize>(input: &T, rivals: &mut [Rival<T>; N]) -> [f64; N] {
+fn on_one<T, const N: usize>(rounds: usize, input: &T, rivals: &mut [Rival<T>; N]) -> [f64; N] {
     let mut repeated = [0; N];
     for (repeated, rival) in repeated.iter_mut().zip(rivals.iter_mut()) {
         *repeated = repeats(input, rival);
     }
     let mut times: [Vec<f64>; N] = std::array::from_fn(|_| Vec::new());
-    for _ in 0..ROUNDS {
+    for _ in 0..rounds {
         for ((times, rival), repeated) in times.iter_mut().zip(rivals.iter_mut()).zip(repeated) {
             times.push(per_call(repeated, input, rival));
         }

@@ -12,10 +12,13 @@ use crate::{kraft, plain, short, spanning};
 
 /// What both references answer and write; bytes beyond it are as they were.
 fn plan_short(net: &[u8], length: usize) -> (Answer, Vec<u8>) {
-    let [mut one, mut two] = [vec![200; length], vec![200; length]];
+    let mut one = vec![200; length];
     let answer = short::plan(net, &mut one);
-    assert_eq!(answer, plain::plan_short(net, &mut two));
-    assert_eq!(one, two);
+    for plan in [plain::plan_short, plain::plan_short_trying_all] {
+        let mut two = vec![200; length];
+        assert_eq!(answer, plan(net, &mut two));
+        assert_eq!(one, two);
+    }
     assert!(one[answer.last as usize..].iter().all(|&b| b == 200));
     one.truncate(answer.last as usize);
     (answer, one)

@@ -50,12 +50,21 @@ fn write(
 
 /// The short tree.
 pub fn plan_short(net: &[u8], out: &mut [u8]) -> Answer {
-    Answer::of(try_plan_short(net, out))
+    Answer::of(try_plan_short(net, out, short::grow))
 }
 
-fn try_plan_short(net: &[u8], out: &mut [u8]) -> Result<(i64, u64, i64), Refusal> {
+/// The same by the plainest way of all, cubic in the sinks: for the benchmark.
+pub fn plan_short_trying_all(net: &[u8], out: &mut [u8]) -> Answer {
+    Answer::of(try_plan_short(net, out, short::grow_trying_all))
+}
+
+fn try_plan_short(
+    net: &[u8],
+    out: &mut [u8],
+    grow: fn(&read::Net) -> short::Grown,
+) -> Result<(i64, u64, i64), Refusal> {
     let net = read::net(net)?;
-    let short::Grown { parent, points } = short::grow(&net);
+    let short::Grown { parent, points } = grow(&net);
     let order = tree::top_down(net.sinks(), &parent).expect("a grown tree is legal");
     let slack = tree::worst_slack(&net, &parent, &points, &order);
     write(slack, &parent, &points, out)

@@ -10,6 +10,17 @@ pub struct Grown {
 }
 
 pub fn grow(net: &Net) -> Grown {
+    grow_by(net, Waiting::after_split)
+}
+
+/// Every waiting sink looks at all edges anew each time: a loop in a loop in a
+/// loop.
+pub fn grow_trying_all(net: &Net) -> Grown {
+    grow_by(net, |sink, edges, _| sink.try_all(edges))
+}
+
+/// The third is the place of the edge that was split.
+fn grow_by(net: &Net, renew: impl Fn(&mut Waiting, &[Edge], usize)) -> Grown {
     let n = net.sinks();
     let root = net.points[0];
     let first = (1..=n)
@@ -39,7 +50,7 @@ pub fn grow(net: &Net) -> Grown {
         parent[end] = new;
         parent[sink] = new;
         for sink in &mut waiting {
-            sink.after_split(&edges, split);
+            renew(sink, &edges, split);
         }
     }
     Grown { parent, points }

@@ -7,6 +7,12 @@
 //!   judge     judgements of those plans
 //!   paths     judgements of one long path over the same nets
 //!   million   a million different small nets
+//!   short     short trees by shape and size of the net
+//!   compare   wire and slack of the short tree beside the first plan's
+
+mod plans;
+mod short;
+mod table;
 
 use repeater_tree::{judge_figures, plan_figures, JudgeFigures, PlanFigures, LISTING_LENGTH};
 use second_reference::net::Net;
@@ -19,8 +25,9 @@ use second_tool::{metals, near, nets, trees};
 use std::hint::black_box;
 use std::process::ExitCode;
 use std::time::{Duration, Instant};
+use table::{Shape, Table, Times};
 
-const SHAPES: [(&str, Make); 11] = [
+const SHAPES: [Shape; 11] = [
     ("common", nets::common),
     ("tied", nets::tied),
     ("falling", nets::falling),
@@ -35,35 +42,22 @@ const SHAPES: [(&str, Make); 11] = [
 ];
 /// Both sides of the least size of the arrays among them.
 const SIZES: [usize; 8] = [1, 5, 12, 16, 17, 50, 200, 512];
-/// Where the growth is read off.
-const LARGE: usize = SIZES.len() - 2;
-const LARGEST: usize = SIZES.len() - 1;
 /// Different nets of one shape and size.
 const NETS: usize = 12;
 
-const PARTS: [(&str, fn()); 4] = [
-    ("plan", plans),
+const PARTS: [(&str, fn()); 6] = [
+    ("plan", timed_plans),
     ("judge", judged_plans),
     ("paths", judged_paths),
     ("million", million),
+    ("short", short::short_trees),
+    ("compare", plans::both_plans),
 ];
 
 struct Case {
     net: Vec<u8>,
     listing: Vec<u8>,
 }
-
-/// Nanoseconds per call.
-#[derive(Clone, Copy)]
-struct Times {
-    library: f64,
-    plain: f64,
-    /// The library's plan of the same net.
-    plan: f64,
-}
-
-/// A row for each shape, a column for each size.
-type Table = Vec<Vec<Times>>;
 
 /// Asserts that the net is accepted, since a refusal would be quick.
 fn library_plan(net: &[u8], out: &mut [u8]) {
@@ -121,11 +115,11 @@ fn time_plans(make: Make, n: usize) -> Times {
             &mut |case: &Case| plain_plan(&case.net, &mut two),
         ],
     );
-    let plan = library;
     Times {
         library,
         plain,
-        plan,
+        plainest: plain,
+        plan: library,
     }
 }
 
@@ -140,26 +134,23 @@ fn time_judgements(make: Make, n: usize, listing: fn(&Net) -> Vec<u8>) -> Times 
     Times {
         library,
         plain,
+        plainest: plain,
         plan,
     }
 }
 
 fn timed_table(time: impl Fn(Make, usize) -> Times) -> Table {
-    SHAPES
-        .iter()
-        .map(|&(_, make)| SIZES.iter().map(|&n| time(make, n)).collect())
-        .collect()
+    Table::timed(&SHAPES, &SIZES, time)
 }
 
-fn plans() {
+fn timed_plans() {
     let table = timed_table(time_plans);
-    print_table(
+    table.print(
         "plan: microseconds, library / plain = ratio",
-        &table,
-        beside_plain,
+        Times::beside_plain,
     );
-    print_largest("plan over plain", &table, over_plain);
-    print_growth(&table);
+    table.print_largest("plan over plain", Times::over_plain);
+    table.print_growth();
 }
 
 fn judged_plans() {
@@ -172,89 +163,17 @@ fn judged_paths() {
 
 fn print_judgements(name: &str, listing: fn(&Net) -> Vec<u8>) {
     let table = timed_table(|make, n| time_judgements(make, n, listing));
-    print_table(
+    table.print(
         &format!("{name}: microseconds, library / plain = ratio"),
-        &table,
-        beside_plain,
+        Times::beside_plain,
     );
-    print_table(
+    table.print(
         &format!("{name}: its time over that of plan on the same net"),
-        &table,
-        |times| format!("{:.2}", over_plan(times)),
+        |times| format!("{:.2}", times.over_plan()),
     );
-    print_largest(&format!("{name} over plain"), &table, over_plain);
-    print_largest(&format!("{name} over plan"), &table, over_plan);
-    print_growth(&table);
-}
-
-fn over_plain(times: &Times) -> f64 {
-    times.library / times.plain
-}
-
-fn over_plan(times: &Times) -> f64 {
-    times.library / times.plan
-}
-
-fn beside_plain(times: &Times) -> String {
-    let (library, plain) = (microseconds(times.library), microseconds(times.plain));
-    format!("{library} / {plain} = **{:.2}**", over_plain(times))
-}
-
-/// Three digits that count.
-fn microseconds(nanoseconds: f64) -> String {
-    let time = nanoseconds / 1000.0;
-    match time {
-        _ if time < 9.995 => format!("{time:.2}"),
-        _ if time < 99.95 => format!("{time:.1}"),
-        _ => format!("{time:.0}"),
-    }
-}
-
-fn print_table(title: &str, table: &Table, cell: fn(&Times) -> String) {
-    println!("\n{title}\n");
-    let heads = SIZES.map(|n| format!("{n} sink{}", if n == 1 { "" } else { "s" }));
-    println!("| Nets | {} |", heads.join(" | "));
-    println!("|---|{}", "---|".repeat(SIZES.len()));
-    for ((shape, _), row) in SHAPES.iter().zip(table) {
-        let cells: Vec<String> = row.iter().map(cell).collect();
-        println!("| {shape} | {} |", cells.join(" | "));
-    }
-}
-
-/// The largest ratio of the table, and where it stands.
-fn print_largest(name: &str, table: &Table, ratio: fn(&Times) -> f64) {
-    let all = SHAPES.iter().zip(table).flat_map(|((shape, _), row)| {
-        let cells = row.iter().zip(SIZES);
-        cells.map(move |(times, n)| (ratio(times), shape, n))
-    });
-    if let Some((most, shape, n)) = all.max_by(|a, b| a.0.total_cmp(&b.0)) {
-        println!("\nlargest {name}: {most:.2} ({shape}, {n} sinks)");
-    }
-}
-
-fn print_growth(table: &Table) {
-    let (large, largest) = (SIZES[LARGE], SIZES[LARGEST]);
-    let square = (largest as f64 / large as f64).powi(2);
-    println!(
-        "\ntime at {largest} sinks over time at {large}; the square of their ratio is {square:.2}:"
-    );
-    for ((shape, _), row) in SHAPES.iter().zip(table) {
-        let (small, large) = (row[LARGE], row[LARGEST]);
-        println!(
-            "{shape:<14} library {:.2}, plain {:.2}",
-            large.library / small.library,
-            large.plain / small.plain
-        );
-    }
-    let worst = |time: fn(&Times) -> f64| {
-        let all = table.iter().map(|row| time(&row[LARGEST]));
-        all.fold(0.0, f64::max) / time(&table[0][LARGEST])
-    };
-    println!(
-        "worst of the {largest}-sink shapes over the common one: library {:.2}, plain {:.2}",
-        worst(|t| t.library),
-        worst(|t| t.plain)
-    );
+    table.print_largest(&format!("{name} over plain"), Times::over_plain);
+    table.print_largest(&format!("{name} over plan"), Times::over_plan);
+    table.print_growth();
 }
 
 fn timed(nets: &[Vec<u8>], out: &mut [u8], plan: fn(&[u8], &mut [u8])) -> Duration {
