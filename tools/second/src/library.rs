@@ -3,9 +3,19 @@
 use repeater_tree::{judge_figures, plan_figures, JudgeFigures, PlanFigures};
 use second_reference::answer::Answer;
 
+/// The first plan.
+pub fn plan(net: &[u8], out: &mut [u8]) -> Answer {
+    planned(plan_figures, net, out)
+}
+
+/// The short tree.
+pub fn plan_short(net: &[u8], out: &mut [u8]) -> Answer {
+    planned(plan_short_figures, net, out)
+}
+
 /// The figures are preset, so that one which the library leaves unwritten
 /// shows.
-pub fn plan(net: &[u8], out: &mut [u8]) -> Answer {
+fn planned(call: fn(&[u8], &mut [u8], &mut PlanFigures), net: &[u8], out: &mut [u8]) -> Answer {
     let mut f = PlanFigures {
         number: 99,
         text: 99,
@@ -14,7 +24,7 @@ pub fn plan(net: &[u8], out: &mut [u8]) -> Answer {
         wire: 99,
         bytes: 99_999,
     };
-    plan_figures(net, out, &mut f);
+    call(net, out, &mut f);
     Answer {
         number: f.number,
         text: f.text,
@@ -46,6 +56,7 @@ pub fn judge(net: &[u8], listing: &[u8]) -> Answer {
 }
 
 extern "C" {
+    /// Declared as the first plan's call is.
     fn repeater_tree_plan_short(
         net: *const u8,
         net_length: usize,
@@ -57,27 +68,6 @@ extern "C" {
         wire: *mut u64,
         bytes: *mut usize,
     ) -> u8;
-}
-
-/// The short tree.
-pub fn plan_short(net: &[u8], out: &mut [u8]) -> Answer {
-    let mut f = PlanFigures {
-        number: 99,
-        text: 99,
-        line: 99,
-        slack: -99,
-        wire: 99,
-        bytes: 99_999,
-    };
-    plan_short_figures(net, out, &mut f);
-    Answer {
-        number: f.number,
-        text: f.text,
-        line: f.line,
-        slack: f.slack,
-        wire: f.wire,
-        last: f.bytes as i64,
-    }
 }
 
 /// Overwrites every figure.

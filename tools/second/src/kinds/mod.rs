@@ -76,7 +76,7 @@ pub const ALL: &[Kind] = &[
     kind("short-ties", 1, short::ties),
     kind("short-streets", 1, short::streets),
     kind("short-few", 1, short::few),
-    kind("short-large", 20, short::large),
+    kind("short-large", 10, short::large),
     kind("short-longest", 300, short::longest),
     kind("short-need", 2, short::need),
     kind("short-mirrored", 2, short::mirrored),
