@@ -12,9 +12,9 @@ use second_reference::{short, spanning};
 /// Up to so many sinks every spanning tree is measured.
 pub const FEW_SINKS: usize = 5;
 /// The slow reference takes long on large nets: one case in so many has them.
-const LARGE_SLOW: u64 = 4;
-/// And seconds on the largest: one case in so many.
-const LARGEST_SLOW: u64 = 32;
+const LARGE_SLOW: u64 = 2;
+/// And a second on the largest: one case in so many.
+const LARGEST_SLOW: u64 = 8;
 const LARGE: usize = 200;
 
 /// What was found of the library's short trees.
@@ -50,11 +50,15 @@ impl Session {
     }
 
     fn is_in_slow_reach(&self, net: &[u8]) -> bool {
-        match Net::read(net).map_or(0, |net| net.sinks.len()) {
-            ..=short::MOST_SINKS => true,
-            ..=LARGE => self.seed() % LARGE_SLOW == 0,
-            _ => self.seed() % LARGEST_SLOW == 0,
-        }
+        let sinks = Net::read(net).map_or(0, |net| net.sinks.len());
+        let one_in = if sinks <= short::MOST_SINKS {
+            1
+        } else if sinks <= LARGE {
+            LARGE_SLOW
+        } else {
+            LARGEST_SLOW
+        };
+        self.seed() % one_in == 0
     }
 
     /// "its wire is at most that of every spanning tree on the root and the

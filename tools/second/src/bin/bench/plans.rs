@@ -17,7 +17,7 @@ const SIZES: [usize; 5] = [5, 12, 50, 200, 512];
 fn how_many(n: usize) -> usize {
     match n {
         ..=50 => 400,
-        ..=200 => 100,
+        51..=200 => 100,
         _ => 20,
     }
 }
