@@ -7,7 +7,7 @@ use crate::marked_tests::{a, judge, one, plan, refusal};
 use crate::net::{Factors, Net, NEED};
 use crate::random_tests::{net_of_round, Random};
 use crate::short::Growing;
-use crate::tree::{Point, Tree};
+use crate::tree::{wire, Point, Tree};
 use crate::{kraft, plain, short, spanning};
 
 /// What both references answer and write; bytes beyond it are as they were.
@@ -210,6 +210,25 @@ fn times_do_not_matter() {
         other.branch = 1_000_000_000;
         other.sinks.iter_mut().for_each(|s| s.arrival = 7);
         assert_eq!(check(&net), check(&other));
+    }
+}
+
+/// The tree's wire is the first sink's distance and what each step adds.
+#[test]
+fn wires_add_up() {
+    let mut r = Random(6666);
+    for round in 0..300 {
+        let net = net_of_round(&mut r, round);
+        let n = net.sinks.len();
+        let mut growing = Growing::new(&net);
+        let first = growing.tree.point[growing.lower_ends[0]];
+        let mut sum = net.root.distance(first);
+        for new in n + 1..2 * n {
+            let (sink, end) = growing.least();
+            sum += growing.added(sink, end);
+            growing.split(sink, end, new);
+        }
+        assert_eq!(wire(&growing.tree), sum);
     }
 }
 
