@@ -5,11 +5,11 @@ use crate::decided::Decided;
 use crate::library;
 use crate::planners::{Planner, GATHERED, PLAIN, SLOW};
 use crate::short::Shorts;
+use crate::trees;
 use second_reference::answer::Answer;
 use second_reference::gathered::Checked;
 use second_reference::listing::Listing;
 use second_reference::net::{Net, Sink, COORDINATE, PIN_LIMIT};
-use second_reference::tree::Tree;
 use second_reference::{gathered, kraft, plain, slow};
 use std::collections::BTreeMap;
 
@@ -153,7 +153,8 @@ impl Session {
                 let tree = Listing::read(plain.listing(), read)
                     .expect("a plan's listing")
                     .tree;
-                self.count_split(read, &tree);
+                let split = trees::split_above_branch_point(&tree);
+                self.split_above_branch_point += u64::from(split);
                 self.count_pins(read);
                 self.metals.count(read, &tree, small);
             }
@@ -193,14 +194,6 @@ impl Session {
             }
             Err(what) => self.disagree(&what, &[("net", &net.text())]),
         }
-    }
-
-    /// The branch point that splits an edge is made after its lower end, so it
-    /// has the higher number.
-    fn count_split(&mut self, net: &Net, tree: &Tree) {
-        let n = net.sinks.len();
-        let split = (n + 1..2 * n).any(|v| tree.parent[v] > v);
-        self.split_above_branch_point += u64::from(split);
     }
 
     fn count_pins(&mut self, net: &Net) {

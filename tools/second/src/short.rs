@@ -4,9 +4,10 @@
 use crate::library;
 use crate::planners::{SHORT_PLAIN, SHORT_SLOW};
 use crate::session::{fill, Planned, Session, GUARD};
+use crate::trees;
 use second_reference::listing::Listing;
 use second_reference::net::Net;
-use second_reference::tree::{Point, Tree};
+use second_reference::tree::Point;
 use second_reference::{short, spanning};
 
 /// Up to so many sinks every spanning tree is measured.
@@ -74,7 +75,7 @@ impl Session {
         let (wire, least) = (listing.wire as i128, spanning::least(&points));
         self.shorts.bounded += 1;
         self.shorts.shorter += u64::from(wire < least);
-        let above = above_branch_point(&listing.tree);
+        let above = trees::split_above_branch_point(&listing.tree);
         self.shorts.above_branch_point += u64::from(above);
         let what = format!("a spanning tree of {least} is shorter");
         self.expect(wire <= least, &what, plan.answer, &text, plan.listing());
@@ -107,13 +108,6 @@ impl Session {
             self.disagree(&what, &[("net", &net.text())]);
         }
     }
-}
-
-/// The branch point that splits an edge is made after its lower end, so it has
-/// the higher number.
-fn above_branch_point(tree: &Tree) -> bool {
-    let vertices = tree.parent.len();
-    (vertices / 2 + 1..vertices).any(|v| tree.parent[v] > v)
 }
 
 fn is_in_box(of: &[Point], points: &[Point]) -> bool {

@@ -101,3 +101,10 @@ pub fn all_from(n: usize, numbers: &[usize]) -> Vec<Vec<usize>> {
     }
     all
 }
+
+/// Whether an edge above a branch point was split: the one that splits it is
+/// made after its lower end, so it has the higher number.
+pub fn split_above_branch_point(tree: &Tree) -> bool {
+    let vertices = tree.parent.len();
+    (vertices / 2 + 1..vertices).any(|v| tree.parent[v] > v)
+}
