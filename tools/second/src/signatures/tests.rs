@@ -6,14 +6,28 @@ fn sources() -> Sources {
     Sources::read(Path::new(concat!(env!("CARGO_MANIFEST_DIR"), "/../.."))).unwrap()
 }
 
+type File = fn(&mut Sources) -> &mut String;
+
 /// The differences once a text of one file is replaced.
-fn planted(file: fn(&mut Sources) -> &mut String, old: &str, new: &str) -> Vec<String> {
+fn planted(file: File, old: &str, new: &str) -> Vec<String> {
+    planted_behind("", file, old, new)
+}
+
+/// Where it first stands behind another.
+fn planted_behind(before: &str, file: File, old: &str, new: &str) -> Vec<String> {
     let mut sources = sources();
     let text = file(&mut sources);
-    assert!(text.contains(old), "{old} does not stand there");
-    *text = text.replacen(old, new, 1);
+    let Some(from) = text.find(before) else {
+        panic!("{before} does not stand there");
+    };
+    let rest = text.split_off(from);
+    assert!(rest.contains(old), "{old} does not stand there");
+    *text += &rest.replacen(old, new, 1);
     compare(&sources).differences
 }
+
+/// What stands before the first function that is called from outside.
+const EXPORTED: &str = "extern \"C\" fn ";
 
 /// A file to plant in, for each of these.
 macro_rules! files {
@@ -63,7 +77,8 @@ fn told(differences: Vec<String>, words: &str) {
 fn the_sources_agree() {
     let report = compare(&sources());
     assert_eq!(report.differences, [""; 0]);
-    assert_eq!(report.functions, 2);
+    let exported = sources().library.matches("#[no_mangle]").count();
+    assert_eq!(report.functions, exported);
     assert!(report.limits >= 4);
     assert_eq!(report.places, 6);
     // one for each refusal, two for the wrong number of children
@@ -152,14 +167,39 @@ fn another_type_is_told() {
         "`bytes: usize`",
     );
     told(
-        planted(library, "out: &mut [u8]", "out: &[u8]"),
+        planted_behind(EXPORTED, library, "out: &mut [u8]", "out: &[u8]"),
         "`out: *const u8`",
     );
     told(
-        planted(library, "wire: &mut u64", "wire: &mut i64"),
+        planted_behind(EXPORTED, library, "wire: &mut u64", "wire: &mut i64"),
         "`wire: *mut i64`",
     );
-    told(planted(library, ") -> u8", ") -> usize"), "`-> usize`");
+    told(
+        planted_behind(EXPORTED, library, ") -> u8", ") -> usize"),
+        "`-> usize`",
+    );
+}
+
+/// Whichever function it is, in each of the three files.
+#[test]
+fn another_type_is_told_of_every_function() {
+    let all = functions::of_rattle(&sources().library);
+    for name in all.iter().map(|f| &f.name) {
+        let before = format!("fn {name}(");
+        for differences in [
+            planted_behind(&before, library, "text: &mut u8", "text: &mut u64"),
+            planted_behind(&before, calls, "line: *mut usize", "line: *mut u64"),
+            planted_behind(&format!("{name}("), header, "size_t *line", "size_t *place"),
+            planted_behind(
+                &format!("{name}_lent("),
+                header,
+                "int64_t *slack",
+                "double *slack",
+            ),
+        ] {
+            told(differences, &format!("{name} has `"));
+        }
+    }
 }
 
 #[test]
@@ -185,7 +225,7 @@ fn a_missing_parameter_is_told() {
         "has `nothing` where",
     );
     told(
-        planted(library, "    bytes: &mut usize,\n", ""),
+        planted_behind(EXPORTED, library, "    bytes: &mut usize,\n", ""),
         "has `bytes: *mut usize` where",
     );
 }
