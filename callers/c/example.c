@@ -110,14 +110,14 @@ static int refused(const char *what, struct refusal told, struct refusal expecte
     return 0;
 }
 
-static int plan_refused(const char *what, const char *net, size_t net_length,
+static int plan_refused(planner *plan, const char *what, const char *net, size_t net_length,
                         uint8_t *out, size_t length, struct refusal expected) {
     struct refusal told;
     int64_t slack;
     uint64_t wire;
     size_t bytes;
-    told.number = repeater_tree_plan(bytes_of(net), net_length, out, length,
-                                     &told.text, &told.line, &slack, &wire, &bytes);
+    told.number = plan(bytes_of(net), net_length, out, length,
+                       &told.text, &told.line, &slack, &wire, &bytes);
     if (slack != 0 || wire != 0 || bytes != 0)
         return unexpected("figures beside a refusal");
     return refused(what, told, expected);
@@ -141,8 +141,10 @@ static int nothing_lent(void) {
     const struct refusal no_listing = {REPEATER_TREE_MALFORMED, 2, 1};
     const struct refusal no_output = {REPEATER_TREE_SHORT_OUTPUT, 0, 0};
     const char *net = NET("0");
-    return plan_refused("no net, no output", NULL, 0, NULL, 0, no_net)
-        || plan_refused("no output", net, strlen(net), NULL, 0, no_output)
+    return plan_refused(repeater_tree_plan, "no net, no output", NULL, 0, NULL, 0, no_net)
+        || plan_refused(repeater_tree_plan, "no output", net, strlen(net), NULL, 0, no_output)
+        || plan_refused(repeater_tree_plan_short, "no net, no output", NULL, 0, NULL, 0, no_net)
+        || plan_refused(repeater_tree_plan_short, "no output", net, strlen(net), NULL, 0, no_output)
         || judge_refused("no net, no listing", NULL, 0, NULL, 0, no_net)
         || judge_refused("no listing", net, strlen(net), NULL, 0, no_listing);
 }
@@ -163,8 +165,8 @@ int main(void) {
         || judge(&two_metals, out, bytes)
         || plan(&short_tree, out, sizeof out, &bytes)
         || judge(&short_tree, out, bytes)
-        || plan_refused("need=1", too_much, strlen(too_much), out, sizeof out, unreachable)
-        || plan_refused("wire=2", one, strlen(one), out, sizeof out, one_factor)
-        || plan_refused("a far pin", far, strlen(far), out, sizeof out, far_pin)
+        || plan_refused(repeater_tree_plan, "need=1", too_much, strlen(too_much), out, sizeof out, unreachable)
+        || plan_refused(repeater_tree_plan, "wire=2", one, strlen(one), out, sizeof out, one_factor)
+        || plan_refused(repeater_tree_plan_short, "a far pin", far, strlen(far), out, sizeof out, far_pin)
         || nothing_lent();
 }

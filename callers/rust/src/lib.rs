@@ -85,8 +85,7 @@ pub fn plan(net: &[u8], out: &mut [u8]) -> Result<Plan, Refusal> {
 /// 5 is never given, and the worst slack may be less than the best.
 ///
 /// ```
-/// // Both pins are due at once: a branch point of their own on the way to the
-/// // second would cost the first its slack.
+/// // The wire to the second pin goes on from the first: 9 and 5.
 /// let net = b"root=0,0\nbranch=20\nwire=1,1\nneed=0\nsinks=2\nsink=9,0,40\nsink=9,5,40\n";
 /// let mut out = [0; repeater_tree::LISTING_LENGTH];
 /// let short = repeater_tree::plan_short(net, &mut out).unwrap();

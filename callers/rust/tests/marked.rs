@@ -1,6 +1,6 @@
 //! Marked nets through the safe calls.
 
-use repeater_tree::{judge, plan, Measures, Plan, Refusal, PIN_LIMIT};
+use repeater_tree::{judge, plan, plan_short, Measures, Plan, Refusal, PIN_LIMIT};
 
 const LISTING: &[u8] = b"slack=0\nwire=32\nsinks=3\nleaf=1,5\nleaf=2,5\nleaf=3,4\n\
 node=4,0,4,0\nnode=5,4,4,0\n";
@@ -36,6 +36,27 @@ fn plans_and_judges() {
             best: 0
         }
     );
+}
+
+/// A's short tree has less wire than its plan, and less slack; a need that no
+/// tree has is not looked at.
+#[test]
+fn plans_a_short_tree() {
+    let listing = b"slack=-10\nwire=26\nsinks=3\nleaf=1,5\nleaf=2,4\nleaf=3,5\n\
+node=4,0,4,0\nnode=5,4,10,0\n";
+    for need in ["0", "1"] {
+        let mut out = [7; 200];
+        let short = plan_short(&net(need), &mut out).unwrap();
+        assert_eq!((short.slack, short.wire), (-10, 26));
+        assert_eq!(&out[..short.bytes], listing);
+        assert!(out[short.bytes..].iter().all(|&b| b == 7));
+        let measures = judge(&net(need), listing).unwrap();
+        assert_eq!((measures.slack, measures.wire, measures.best), (-10, 26, 0));
+    }
+    let mut out = [7; 79];
+    let refusal = plan_short(&net("0"), &mut out).unwrap_err();
+    assert_eq!((refusal.number, refusal.text, refusal.line), (6, 0, 0));
+    assert_eq!(out, [7; 79]);
 }
 
 /// Every length and time of net A 1,000 times as large: the same parents.

@@ -1,4 +1,5 @@
-// The marked nets and lines that are checked by running plan and judge: number, text and line of what each returns, and plan's bytes; of the nets of 02's requests 1, 4 and 5 the listing.
+// The marked nets and lines that are checked by running the plans and judge: number, text and line of what each returns, and plan's bytes; of the nets of 02's
+// requests 1, 4, 5 and 6 the listing.
 use first_plan::plan::plan;
 use formats::limits::LISTING_LENGTH_LIMIT;
 use formats::limits::NET_LENGTH_LIMIT;
@@ -8,6 +9,7 @@ use judging::judge::judge;
 use libc::STDOUT_FILENO;
 use operations::answers::JudgeAnswer;
 use operations::answers::PlanAnswer;
+use short_tree::plan_short::plan_short;
 
 fn show_figures(number: u8, text: u8, line: usize, bytes: usize) {
     io::print_decimal(STDOUT_FILENO, number as u64);
@@ -75,6 +77,18 @@ fn show_listing(net: &[u8]) {
     match plan(net, &mut out) {
         PlanAnswer::Planned { slack, wire, bytes } => {
             print_listing(&out, bytes);
+        }
+        PlanAnswer::PlanRefused { refusal } => show_refusal(refusal),
+    }
+}
+
+// The listing of the short tree, and what judge returns for it.
+fn show_short(net: &[u8]) {
+    let mut out = [0u8; LISTING_LENGTH_LIMIT];
+    match plan_short(net, &mut out) {
+        PlanAnswer::Planned { slack, wire, bytes } => {
+            print_listing(&out, bytes);
+            judge_written(net, &out, bytes);
         }
         PlanAnswer::PlanRefused { refusal } => show_refusal(refusal),
     }
@@ -239,6 +253,24 @@ fn show_factors() {
     );
 }
 
+// Request 6 of 02: A, also with a need that no tree has; ties by sink; ties by lower end; one sink; a far pin: 13,1,6.
+fn show_short_trees() {
+    show_short(
+        b"root=0,0\nbranch=20\nwire=2,2\nneed=0\nsinks=3\nsink=10,0,100\nsink=4,6,60\nsink=10,10,70\n",
+    );
+    show_short(
+        b"root=0,0\nbranch=20\nwire=2,2\nneed=1\nsinks=3\nsink=10,0,100\nsink=4,6,60\nsink=10,10,70\n",
+    );
+    show_short(
+        b"root=0,0\nbranch=20\nwire=2,3\nneed=0\nsinks=3\nsink=3,4,60\nsink=2,4,60\nsink=5,0,60\n",
+    );
+    show_short(
+        b"root=0,0\nbranch=20\nwire=2,2\nneed=-40\nsinks=3\nsink=0,0,0\nsink=0,0,0\nsink=0,0,0\n",
+    );
+    show_short(b"root=0,0\nbranch=20\nwire=2,2\nneed=0\nsinks=1\nsink=3,4,10\n");
+    show_short(b"root=0,0\nbranch=20\nwire=2,2\nneed=0\nsinks=1\nsink=40000001,0,100\n");
+}
+
 fn main() {
     show_lines();
     show_positions();
@@ -252,4 +284,5 @@ fn main() {
     show_factors();
     show_ranges();
     show_nanometres();
+    show_short_trees();
 }

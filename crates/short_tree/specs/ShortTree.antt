@@ -35,14 +35,14 @@ pub record Growing : Type 0 where
 abbrev pub waiting : Net → Growing → List ℕ
 waiting N g = outside (g .sinks) (sinkNumbers (size N))
 
--- k branch points are made: the edges by their lower ends, and for sink s the one that adds least, "then lowest lower end"
+-- k branch points are made: the edges by their lower ends, and for sink s the one at which it adds least, the lowest lower end on a tie
 abbrev pub edges : Net → ℕ → Growing → List ℕ
 edges N k g = lowerEnds (size N) (g .sinks) k
 
 abbrev pub edgeFor : Net → ℕ → Growing → ℕ → ℕ
 edgeFor N k g s = firstOf (added N (g .tree) s) (edges N k g)
 
--- "then always the sink, edge and point that add least plain wire. Ties: lowest sink"
+-- "then always the sink, edge and point that add least plain wire", "Ties: lowest sink, then lowest lower end"
 abbrev pub nextSink : Net → ℕ → Growing → ℕ
 nextSink N k g = firstOf (λ s. added N (g .tree) s (edgeFor N k g s)) (waiting N g)
 

@@ -1,6 +1,6 @@
 //! The library's calls in the form of the reference's answers.
 
-use repeater_tree::{judge_figures, plan_figures, JudgeFigures, PlanFigures};
+use repeater_tree::{judge_figures, plan_figures, plan_short_figures, JudgeFigures, PlanFigures};
 use second_reference::answer::Answer;
 
 /// The first plan.
@@ -53,38 +53,4 @@ pub fn judge(net: &[u8], listing: &[u8]) -> Answer {
         wire: f.wire,
         last: f.best,
     }
-}
-
-extern "C" {
-    /// Declared as the first plan's call is.
-    fn repeater_tree_plan_short(
-        net: *const u8,
-        net_length: usize,
-        out: *mut u8,
-        out_length: usize,
-        text: *mut u8,
-        line: *mut usize,
-        slack: *mut i64,
-        wire: *mut u64,
-        bytes: *mut usize,
-    ) -> u8;
-}
-
-/// Overwrites every figure.
-pub fn plan_short_figures(net: &[u8], out: &mut [u8], f: &mut PlanFigures) {
-    // SAFETY: slices are non-null and valid for their lengths, also when empty;
-    // the exclusive borrows keep output and figures apart from all else.
-    f.number = unsafe {
-        repeater_tree_plan_short(
-            net.as_ptr(),
-            net.len(),
-            out.as_mut_ptr(),
-            out.len(),
-            &mut f.text,
-            &mut f.line,
-            &mut f.slack,
-            &mut f.wire,
-            &mut f.bytes,
-        )
-    };
 }

@@ -16,13 +16,17 @@ const LENGTH: &str = "crates/quantities/src/length.rt";
 const PRODUCT: &str = "crates/quantities/src/wire_factor.rt";
 
 /// Every file that takes the number, and how often: the product, the listing's
-/// text with its length, the figures that go out.
-const PLACES: [(&str, usize); 5] = [
+/// text with its length, the figures that go out, the array of what sinks add
+/// to the short tree, which is read back as lengths.
+const PLACES: [(&str, usize); 8] = [
     (PRODUCT, 1),
     ("crates/formats/src/write_listing.rt", 1),
     ("crates/formats/src/listing_length.rt", 1),
     ("crates/repeater_tree/src/lib.rt", 2),
     ("crates/console/src/lines.rt", 1),
+    ("crates/short_tree/src/choose.rt", 1),
+    ("crates/short_tree/src/grow.rt", 1),
+    ("crates/short_tree/src/renew.rt", 1),
 ];
 
 /// How many places are listed.

@@ -80,7 +80,7 @@ fn the_sources_agree() {
     let exported = sources().library.matches("#[no_mangle]").count();
     assert_eq!(report.functions, exported);
     assert!(report.limits >= 4);
-    assert_eq!(report.places, 6);
+    assert_eq!(report.places, 9);
     // one for each refusal, two for the wrong number of children
     assert_eq!(report.wordings, 14);
 }

@@ -2,10 +2,9 @@
 
 use crate::table::{Shape, Table, Times};
 use crate::{cases, library_plan, planned, Case};
-use repeater_tree::{PlanFigures, LISTING_LENGTH};
+use repeater_tree::{plan_short_figures, PlanFigures, LISTING_LENGTH};
 use second_reference::answer::Answer;
 use second_reference::plain;
-use second_tool::library::plan_short_figures;
 use second_tool::shapes::Make;
 use second_tool::streets::{clusters, columns, comb, grid, line, ring, stairs};
 use second_tool::timing::compare_in;
