@@ -1,5 +1,5 @@
 -- Marked nets of 02's request 6: a net whose short tree is not its first plan, with the whole listing, and ties. One statement.
-use Prim.Native.Nat.{ℕ, _≤_, _<_}
+use Prim.Native.Nat.{ℕ, _≤_}
 use mathlib.Core.Path.{_≡_}
 use mathlib.Core.List.{List, [], _∷_}
 use lib.ListN.{length}

@@ -1,7 +1,6 @@
 // Which sink goes first, and which goes in next. The edge kept for a sink may have become dearer since; only a sink that could go in next looks for its
 // cheapest edge anew.
 ghost use mathlib.Core.Path.{_≡_};
-ghost use mathlib.Core.Logic.{_≢_};
 ghost use Prim.Native.Nat.{ℕ, suc, _+_, _≤_, _<_};
 ghost use mathlib.Core.Bool.{cond, false};
 ghost use lib.Dec.{ltb, leb, eqb};
@@ -9,7 +8,7 @@ ghost use lib.ListN.{length, getD};
 ghost use Rattle.quantities.specs.Distance.{distance};
 ghost use Rattle.tree.specs.Inner.Arrays.{pointAt, Points};
 ghost use Rattle.short_tree.specs.Inner.Searching.{First};
-ghost use Rattle.short_tree.specs.Inner.Arrays.{addedAt, Reaches, Waits, Inside, Cheapest, Kept, AllKept, SameZeros, SameBut, Looked, Chosen};
+ghost use Rattle.short_tree.specs.Inner.Arrays.{Reaches, Waits, Inside, Cheapest, Kept, AllKept, SameZeros, SameBut, Looked, Chosen};
 use crate::edge::cheapest_edge;
 use crate::edge::edge_to;
 use quantities::length::Length;

@@ -1,6 +1,5 @@
 // What is kept for the sinks that wait after a sink s went in. The split edge is in two parts now, and no sink is nearer to a part than it was to the whole:
 // only the new edge to s can go before what is kept.
-ghost use mathlib.Core.Path.{_≡_};
 ghost use mathlib.Core.Logic.{_≢_};
 ghost use Prim.Native.Nat.{ℕ, _≤_, _<_};
 ghost use lib.ListN.{length, getD};

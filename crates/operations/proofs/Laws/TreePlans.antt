@@ -19,7 +19,7 @@ use Rattle.tree.specs.Limits.{positionLimit, slackLimit, InRange}
 use Rattle.formats.specs.Refusals.{told}
 use Rattle.formats.specs.Outcome.{Outcome, value, refused, andThen}
 use Rattle.formats.specs.NetText.{InFormat}
-use Rattle.formats.specs.ListingText.{Listing, listingText, ListingInRange, ListingInFormat}
+use Rattle.formats.specs.ListingText.{Listing, ListingInRange, ListingInFormat}
 use Rattle.formats.specs.Reading.Nets.{readNet}
 use Rattle.formats.specs.declared.refusal.Refusal.{Refusal}
 use Rattle.formats.specs.declared.refusal.Refusal.the-variants.{Unreachable, TooShort}
@@ -30,7 +30,7 @@ use Rattle.formats.proofs.Laws.Faults.NetFaults.{net-answered}
 use Rattle.formats.proofs.Laws.TextLengths.{listing-in-format}
 use Rattle.operations.specs.Answers.{Written, stated, emitted, bytesOf, overwritten, planAnswer, judgeOf}
 use Rattle.operations.specs.Demands.{withNeed}
-use Rattle.operations.specs.TreePlans.{treeListing, treePlanOf, treePlanOutput, TreePlanRefuses, TreePlanFor, TreePlan}
+use Rattle.operations.specs.TreePlans.{treeListing, treePlanOf, treePlanOutput, TreePlanRefuses, TreePlan}
 use Rattle.operations.specs.declared.answers.PlanAnswer.{PlanAnswer}
 use Rattle.operations.specs.declared.answers.PlanAnswer.the-variants.{PlanRefused}
 use Rattle.operations.proofs.Laws.Answers.{overwritten-beyond, overwritten-length}

@@ -3,21 +3,19 @@ use Prim.Native.Nat.{ℕ, zero, suc, _+_, _-_, _*_, _≤_, _<_, zero-le}
 use mathlib.Core.Path.{_≡_, refl, sym, ap, _∙_, subst}
 use mathlib.Core.Bool.{Bool, true, false}
 use mathlib.Core.Logic.{_≢_, _⊎_, inl, inr}
-use mathlib.Core.List.{List, [], _∷_}
+use mathlib.Core.List.{List, _∷_}
 use native.Mathlib.Nat.{le-refl, mul-le-mul}
 use native.Mathlib.Omega.{arith}
 use lib.Dec.{ltb}
 use lib.ListN.{length}
-use lib.IntN.{ℤ, pos, negℤ, _-ℤ_}
+use lib.IntN.{ℤ, pos, _-ℤ_}
 use Rattle.quantities.specs.declared.point.Point.{Point}
-use Rattle.quantities.specs.Box.{InBox}
 use Rattle.quantities.specs.Inner.Linear.{whole, -is}
 use Rattle.quantities.specs.Ranges.{Within, PointWithin}
-use Rattle.quantities.proofs.Laws.Distance.{distance-within}
 use Rattle.tree.specs.Lists.{sumOver, delta, count, down, range}
 use Rattle.tree.specs.Net.{Net, size, required}
 use Rattle.tree.specs.Tree.{Tree, parent, place}
-use Rattle.tree.specs.Measures.{pathUp, path, edgeLength, edgeDelay, pathDelay, oneIf, depth, slack, worstSlack, wireLength}
+use Rattle.tree.specs.Measures.{pathUp, path, edgeDelay, pathDelay, oneIf, depth, slack, worstSlack, wireLength}
 use Rattle.tree.specs.Limits.{positionLimit, branchLimit, wireFactorLimit, sinkLimit, requiredLimit, slackLimit, wireLimit, InRange}
 use Rattle.tree.proofs.Laws.Lists.Sums.{equal?, delta-ne}
 use Rattle.tree.proofs.Laws.Trees.Walks.{hops, hops-stable, hops-le}
@@ -25,7 +23,6 @@ use Rattle.tree.proofs.Laws.Trees.Growing.{PartTree, Split, member, parent-inne
 use Rattle.tree.proofs.Laws.Trees.AnySplit.{clear-x, depth-any}
 use Rattle.tree.proofs.Laws.Planning.WorstAfter.{meet-once}
 use Rattle.tree.proofs.Laws.Planning.KeepsBest.{Least}
-use Rattle.tree.proofs.Laws.Lists.Tables.{range-length}
 use Rattle.tree.proofs.Laws.Planning.AnyTieRule.{worst-is-least, sinks-in}
 use Rattle.quantities.proofs.Laws.Delay.{delay-within}
 use Rattle.tree.proofs.Laws.Measures.FiguresInRange.{boxed-within, legal-wire-range}

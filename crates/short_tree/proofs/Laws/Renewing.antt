@@ -9,7 +9,7 @@ use lib.ListN.{length, getD}
 use lib.IntN.{ℤ}
 use Rattle.tree.proofs.Laws.Lists.Sums.{equal?}
 use Rattle.short_tree.specs.Inner.Searching.{Leads, Bound}
-use Rattle.short_tree.specs.Inner.Arrays.{addedAt, Waits, Inside, Others, Kept, AllKept, SameZeros, SameBut}
+use Rattle.short_tree.specs.Inner.Arrays.{addedAt, Inside, Others, Kept, AllKept, SameZeros, SameBut}
 use Rattle.short_tree.proofs.Laws.Choosing.{leads-trans, leads-same}
 use Rattle.short_tree.proofs.Laws.EdgeSearch.{bound-among}
 use Rattle.short_tree.proofs.Laws.SinkSearch.{inside-map, inside-back}

@@ -1,6 +1,6 @@
 -- What request 6 promises of the second plan: from Theorem 2, the ranges of the short tree, and what holds of every plan that ignores need. Assumes nothing.
 use Prim.Native.Nat.{ℕ, zero, suc, _≤_, _-_}
-use mathlib.Core.Path.{_≡_, refl, sym, ap, _∙_}
+use mathlib.Core.Path.{_≡_, refl, ap}
 use mathlib.Core.List.{List}
 use native.Mathlib.Omega.{arith}
 use lib.IntN.{ℤ}
@@ -12,7 +12,7 @@ use Rattle.operations.specs.Answers.{Written}
 use Rattle.operations.specs.Demands.{withNeed}
 use Rattle.operations.specs.TreePlans.{treePlanOf}
 use Rattle.operations.proofs.Laws.TreePlans.{Makes, tree-plan}
-use Rattle.short_tree.specs.ShortTree.{Growing, step, after, short}
+use Rattle.short_tree.specs.ShortTree.{step, after, short}
 use Rattle.short_tree.specs.SecondPlan.{SecondPlan}
 use Rattle.short_tree.proofs.Laws.Theorem2.{theorem2}
 use Rattle.short_tree.proofs.Laws.Ranges.{short-within, short-slack-range, short-wire-range}

@@ -3,7 +3,7 @@ use Prim.Native.Nat.{ℕ, zero, suc, _+_, _-_, _*_, _≤_, _<_}
 use mathlib.Core.Path.{_≡_, refl, sym, ap, _∙_, subst}
 use mathlib.Core.Logic.{_≢_, _⊎_, inl, inr}
 use mathlib.Core.List.{List, [], _∷_, _++_, map}
-use native.Mathlib.Nat.{add-zero, mul-one, eq-or-lt-of-le}
+use native.Mathlib.Nat.{add-zero, mul-one}
 use native.Mathlib.Omega.{arith}
 use lib.ListN.{length, getD}
 use Rattle.quantities.specs.declared.point.Point.{Point}
@@ -14,7 +14,7 @@ use Rattle.tree.specs.Net.{Net, size, sinkAt}
 use Rattle.tree.specs.Tree.{Tree, parentOf, parent, Legal, LegalTree, place}
 use Rattle.tree.specs.Measures.{wireLength, edgeLength}
 use Rattle.tree.specs.SpanningTrees.{Link, linkAt, Linked, here, from-one, from-other, Among, SpanningTree, linkWire, terminals}
-use Rattle.tree.proofs.Laws.Lists.Sums.{sum, equal?, delta-ne, delta-self, regroup-by, sum-cong, sum-split}
+use Rattle.tree.proofs.Laws.Lists.Sums.{sum, equal?, delta-ne, regroup-by, sum-cong, sum-split}
 use Rattle.tree.proofs.Laws.Lists.Tables.{range-length}
 use Rattle.tree.proofs.Laws.Trees.Defects.{range-in, in-range}
 use Rattle.tree.proofs.Laws.Trees.Growing.{PartTree}

@@ -1,4 +1,4 @@
--- `choose::nearer` meets its contract. Assumes nothing.
+-- By the two distances from the root. No loop.
 use Prim.Native.Nat.{ℕ}
 use mathlib.Core.Path.{_≡_, sym, ap, ap₂, _∙_, subst}
 use mathlib.Core.Bool.{Bool, cond}

@@ -1,4 +1,4 @@
--- `choose::nearest_sink` meets its contract. The loop's invariant: of the sinks before s the nearest is found. The measure is what is left. Assumes nothing.
+-- Sink by sink: of those before s the nearest is found, the lowest on a tie; the sinks left go down.
 use Prim.Native.Nat.{ℕ, _+_, _-_, _≤_}
 use mathlib.Core.Path.{sym, subst}
 use native.Mathlib.Omega.{arith}

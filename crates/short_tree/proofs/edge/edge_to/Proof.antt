@@ -1,4 +1,4 @@
--- `edge::edge_to` meets its contract. Assumes nothing.
+-- What the sink adds is its distance from the median, all points being in range. No loop.
 use mathlib.Core.Path.{refl, sym, ap₂, _∙_, subst}
 use borrow.Author.Needs.{needs}
 use Rattle.quantities.specs.Distance.{distance}

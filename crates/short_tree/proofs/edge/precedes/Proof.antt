@@ -1,5 +1,4 @@
 -- The lesser goes before, then the lower: by the two tests. No loop.
-use Prim.Native.Nat.{_≤_, _<_}
 use mathlib.Core.Path.{sym, _∙_}
 use borrow.Author.Tests.{ltb-true, ltb-false}
 use borrow.Author.Needs.{needs}

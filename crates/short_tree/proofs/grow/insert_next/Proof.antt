@@ -4,7 +4,7 @@ use mathlib.Core.Path.{_∙_}
 use native.Mathlib.Omega.{arith}
 use lib.ListN.{length-set}
 use Rattle.tree.specs.Net.{Net}
-use Rattle.short_tree.specs.Inner.Arrays.{Pins, Held}
+use Rattle.short_tree.specs.Inner.Arrays.{Held}
 use Rattle.short_tree.proofs.Laws.Inserting.{held-kept, held-reaches, one-waits, edge-in, next-reaches, sink-in, next-kept, held-next}
 use borrow.Author.Needs.{needs}
 use Rattle.short_tree.proofs.grow.insert_next.Statement.{statement}

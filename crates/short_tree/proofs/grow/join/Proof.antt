@@ -1,4 +1,4 @@
--- `grow::join` meets its contract. Assumes nothing.
+-- The median is stored at the place of b, and the three stores split the edge. No loop.
 use mathlib.Core.Path.{ap, _∙_}
 use lib.ListN.{set}
 use mir.Facts.{toZ-ofZ}

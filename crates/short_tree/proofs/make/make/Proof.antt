@@ -1,5 +1,4 @@
 -- The arrays hold the short tree, which has no defects, so the way down reaches every vertex and the measures are those of the tree. No loop.
-use Prim.Native.Nat.{ℕ, _*_, _≤_}
 use mathlib.Core.Path.{_≡_, _∙_}
 use mathlib.Core.Option.{none}
 use native.Mathlib.Omega.{arith}
