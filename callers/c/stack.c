@@ -23,8 +23,13 @@ static uint8_t net[REPEATER_TREE_NET_LENGTH];
 static uint8_t listing[REPEATER_TREE_LISTING_LENGTH];
 static size_t net_length, listing_length;
 
+/* The calls that plan have one shape. */
+typedef uint8_t planner(const uint8_t *, size_t, uint8_t *, size_t,
+                        uint8_t *, size_t *, int64_t *, uint64_t *, size_t *);
+
 /* What a thread does, and where the stack stood when it began. */
 struct job {
+    planner *planner;
     size_t out_length;
     uint8_t number;
     const uint8_t *from;
@@ -37,20 +42,8 @@ static void *plan(void *given) {
     int64_t slack;
     uint64_t wire;
     job->from = &text;
-    job->number = repeater_tree_plan(net, net_length, listing, job->out_length,
-                                     &text, &line, &slack, &wire, &listing_length);
-    return NULL;
-}
-
-static void *plan_short(void *given) {
-    struct job *job = given;
-    uint8_t text;
-    size_t line;
-    int64_t slack;
-    uint64_t wire;
-    job->from = &text;
-    job->number = repeater_tree_plan_short(net, net_length, listing, job->out_length,
-                                           &text, &line, &slack, &wire, &listing_length);
+    job->number = job->planner(net, net_length, listing, job->out_length,
+                               &text, &line, &slack, &wire, &listing_length);
     return NULL;
 }
 
@@ -74,8 +67,8 @@ static void demand(int holds, const char *what) {
 }
 
 /* Bytes of stack that the job took. */
-static size_t used_by(void *(*run)(void *), size_t out_length) {
-    struct job job = {out_length, 99, NULL};
+static size_t used_by(void *(*run)(void *), planner *planner, size_t out_length) {
+    struct job job = {planner, out_length, 99, NULL};
     pthread_attr_t attributes;
     pthread_t thread;
     size_t lowest = 0;
@@ -106,11 +99,11 @@ int main(void) {
     for (size_t i = 0; i < sizeof sizes / sizeof *sizes; i++) {
         size_t used[5];
         make_net(sizes[i]);
-        used[0] = used_by(plan, sizeof listing);
-        used[1] = used_by(plan, listing_length);
-        used[2] = used_by(judge, 0);
-        used[3] = used_by(plan_short, sizeof listing);
-        used[4] = used_by(plan_short, listing_length);
+        used[0] = used_by(plan, repeater_tree_plan, sizeof listing);
+        used[1] = used_by(plan, repeater_tree_plan, listing_length);
+        used[2] = used_by(judge, NULL, 0);
+        used[3] = used_by(plan, repeater_tree_plan_short, sizeof listing);
+        used[4] = used_by(plan, repeater_tree_plan_short, listing_length);
         printf("%5d %6zu %22zu %6zu %11zu %16zu\n", sizes[i], used[0], used[1], used[2], used[3], used[4]);
         for (size_t j = 0; j < 5; j++)
             if (used[j] > most) most = used[j];
