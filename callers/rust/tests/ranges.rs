@@ -1,4 +1,4 @@
-//! Each end of the figures' ranges is reached.
+//! Each end of the ranges of plan's and judge's figures is reached.
 
 use repeater_tree::{judge, plan, Measures, LISTING_LENGTH};
 
