@@ -5,6 +5,7 @@ pub mod Spanning
 pub mod Waiting
 pub mod Wiring
 pub mod Choice
+pub mod Star
 pub mod Theorem2
 pub mod Ranges
 pub mod EdgeSearch

@@ -2,7 +2,7 @@
 use Prim.Native.Nat.{ℕ, suc, _*_, _≤_, _<_}
 use mathlib.Core.Path.{_≡_}
 use mathlib.Core.Logic.{_⊎_}
-use mathlib.Core.List.{List}
+use mathlib.Core.List.{List, map}
 use Rattle.quantities.specs.declared.point.Point.{Point}
 use Rattle.quantities.specs.Distance.{distance}
 use Rattle.quantities.specs.Box.{InBox}
@@ -28,6 +28,10 @@ pub record FirstChoice (N : Net) (k : ℕ) (g : Growing) (s v : ℕ) : Type 0 wh
   pub edge : Among (edges N k g) v
   pub first : (t u : ℕ) → Among (waiting N g) t → Among (edges N k g) u → NotAfter (added N (g .tree) s v) s v (added N (g .tree) t u) t u
 
+-- one spanning tree on the root and n sinks: a wire of its own from the root to each
+abbrev pub star : ℕ → List Link
+star n = map (λ s. record { one = 0; other = s }) (sinkNumbers n)
+
 -- for every net with a sink, of whatever numbers
 pub record Theorem2 (N : Net) : Type 0 where
   pub start : NearestSink N (nearest N)
@@ -35,5 +39,7 @@ pub record Theorem2 (N : Net) : Type 0 where
   pub legal : LegalTree N (short N)
   -- "its wire is at most that of every spanning tree on the root and the sinks"
   pub shortest : (L : List Link) → SpanningTree (terminals (size N)) L → wireLength N (short N) ≤ linkWire (sinkAt N) L
+  -- and there are such trees
+  pub spanned : SpanningTree (terminals (size N)) (star (size N))
   -- every vertex lies in each box that the root and the sinks lie in
   pub boxed : (low high : Point) → ((t : ℕ) → t ≤ size N → InBox low high (sinkAt N t)) → (v : ℕ) → v < 2 * size N → InBox low high (place N (short N) v)

@@ -51,7 +51,7 @@ fn is_behind(best: usize, costs: &[u64], s: usize) -> bool
     best != 0 && costs[best] <= costs[s]
 }
 
-// The cheapest edge of sink s is kept: the one that is, unless s adds more there by now.
+// Sees to it that the edge kept for sink s is its cheapest: it is, unless s adds more there by now than was kept.
 fn find_edge(
     last: usize,
     kept: &mut [usize],

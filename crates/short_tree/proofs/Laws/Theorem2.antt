@@ -25,6 +25,7 @@ use Rattle.short_tree.specs.Theorem2.{Theorem2}
 use Rattle.short_tree.proofs.Laws.Spanning.{Way, there, by, fore, rear, Spans}
 use Rattle.short_tree.proofs.Laws.Waiting.{ones, sink-once, place-terminal, place-old, place-new}
 use Rattle.short_tree.proofs.Laws.Wiring.{Grown, apart}
+use Rattle.short_tree.proofs.Laws.Star.{terminal-low, low-terminal, star-spans}
 use Rattle.short_tree.proofs.Laws.Choice.{nearest-sink, first-choice, grown}
 
 -- ---- the links of a spanning tree, as Laws/Spanning has them
@@ -35,16 +36,10 @@ link-way {L} (from-one i h w) = by i (linkAt L i .one) (in-range 0 (length L) i 
 link-way {L} (from-other i h w) = by i (linkAt L i .other) (in-range 0 (length L) i (omega arith) (omega arith)) (fore refl refl) (link-way w)
 
 module _ (n : ℕ) where
-  terminal-low : (v : ℕ) → Among (terminals n) v → v ≤ n
-  terminal-low v m = omega (arith, range-in 0 (suc n) v m)
-
-  low-terminal : (v : ℕ) → v ≤ n → Among (terminals n) v
-  low-terminal v h = in-range 0 (suc n) v (omega arith) (omega arith)
-
   links-span : (L : List Link) → SpanningTree (terminals n) L → Spans n (range 0 (length L)) (λ j. linkAt L j .one) (λ j. linkAt L j .other)
   links-span L t = record {
-    ends = λ j m. let e : Among (terminals n) (linkAt L j .one) × Among (terminals n) (linkAt L j .other) = t .ends j (omega (arith, range-in 0 (length L) j m)) in (terminal-low _ (e .0), terminal-low _ (e .1));
-    joined = λ v h. link-way (t .linked 0 v (low-terminal 0 (omega arith)) (low-terminal v h));
+    ends = λ j m. let e : Among (terminals n) (linkAt L j .one) × Among (terminals n) (linkAt L j .other) = t .ends j (omega (arith, range-in 0 (length L) j m)) in (terminal-low n _ (e .0), terminal-low n _ (e .1));
+    joined = λ v h. link-way (t .linked 0 v (low-terminal n 0 (omega arith)) (low-terminal n v h));
   }
 
 link-sum : (N : Net) (L : List Link) (a : ℕ) (f : ℕ → ℕ) → ((i : ℕ) → i < length L → f (a + i) ≡ apart N (linkAt L i .one) (linkAt L i .other)) → sumOver (range a (length L)) f ≡ linkWire (sinkAt N) L
@@ -161,5 +156,6 @@ module _ (N : Net) (n1 : 1 ≤ size N) where
     choice = λ k h. first-choice N k (after N k) (grown N n1 k (omega arith)) h;
     legal = legal;
     shortest = shortest;
+    spanned = star-spans (size N);
     boxed = λ low high pins v h. in-box low high pins (size N - 1) (omega arith) v;
   }
