@@ -253,7 +253,7 @@ fn show_factors() {
     );
 }
 
-// Request 6 of 02: A, also with a need that no tree has; ties by sink; ties by lower end; one sink; a far pin: 13,1,6.
+// Request 6 of 02: A, also with a need that no tree has; ties by sink; the edge above a branch point; ties by lower end; one sink; a far pin: 13,1,6.
 fn show_short_trees() {
     show_short(
         b"root=0,0\nbranch=20\nwire=2,2\nneed=0\nsinks=3\nsink=10,0,100\nsink=4,6,60\nsink=10,10,70\n",
@@ -263,6 +263,9 @@ fn show_short_trees() {
     );
     show_short(
         b"root=0,0\nbranch=20\nwire=2,3\nneed=0\nsinks=3\nsink=3,4,60\nsink=2,4,60\nsink=5,0,60\n",
+    );
+    show_short(
+        b"root=0,0\nbranch=20\nwire=2,2\nneed=0\nsinks=3\nsink=10,2,100\nsink=10,-2,100\nsink=5,9,100\n",
     );
     show_short(
         b"root=0,0\nbranch=20\nwire=2,2\nneed=-40\nsinks=3\nsink=0,0,0\nsink=0,0,0\nsink=0,0,0\n",

@@ -34,7 +34,7 @@ use Rattle.operations.proofs.Laws.Marked as first
 use Rattle.operations.proofs.Laws.TreePlans.{tree-judged}
 use Rattle.short_tree.specs.ShortTree.{short}
 use Rattle.short_tree.specs.SecondPlan.{shortOf}
-use Rattle.short_tree.specs.Marked.{shortA, textTied, shortTied, Marked}
+use Rattle.short_tree.specs.Marked.{shortA, textTied, shortTied, textBranchEdge, shortBranchEdge, Marked}
 use Rattle.short_tree.proofs.Laws.SecondPlan.{short-makes, second-plan}
 
 -- a net that is read as N, and the listing of its short tree
@@ -99,6 +99,21 @@ tied-sinks : (room : ℕ) → length shortTied ≤ room → shortOf textTied roo
 unfolding tiedNet readNet numberThen rowIn begins lineIn field natural digitsValue lead treeListing listingText digits showNat show worstSlack wireLength short minℤ maxℤ median medianPoint delay distance span
 tied-sinks = short-over textTied tiedNet refl (pos 0) 10 shortTied refl refl refl
 
+-- ---- an edge above a branch point
+
+branchNet : Net
+branchNet = record {
+  root = point (pos 0) (pos 0);
+  branch = 20;
+  wire = metals 2 2;
+  need = pos 0;
+  sinks = sink (pos 10) (pos 2) (pos 100) ∷ (sink (pos 10) (negℤ (pos 2)) (pos 100) ∷ (sink (pos 5) (pos 9) (pos 100) ∷ []));
+}
+
+branch-edge : (room : ℕ) → length shortBranchEdge ≤ room → shortOf textBranchEdge room ≡ value (record { slack = pos 36; wire = 23; bytes = shortBranchEdge })
+unfolding branchNet readNet numberThen rowIn begins lineIn field natural digitsValue lead treeListing listingText digits showNat show worstSlack wireLength short minℤ maxℤ median medianPoint delay distance span
+branch-edge = short-over textBranchEdge branchNet refl (pos 36) 23 shortBranchEdge refl refl refl
+
 pub marked : Marked
 unfolding short minℤ maxℤ median medianPoint distance span
 marked = record {
@@ -108,6 +123,7 @@ marked = record {
   A-need = λ room h. (first.marked .A-need room, A1-short room h);
   A-room = (refl, A-room);
   tied-sinks = tied-sinks;
+  branch-edge = branch-edge;
   tied-ends = (refl, refl);
   one-sink = λ c. (refl, refl);
 }
