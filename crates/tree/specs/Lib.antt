@@ -2,6 +2,7 @@
 pub mod Lists
 pub mod Net
 pub mod Tree
+pub mod Weights
 pub mod Measures
 pub mod Kraft
 pub mod Planning

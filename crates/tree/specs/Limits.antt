@@ -1,9 +1,13 @@
--- The ranges of document 01, 'The net text' and 'The tree listing', as 02's requests 4 and 5 have them, each once. Definitions alone.
+-- The ranges of document 01, 'The net text' and 'The tree listing', as 02's requests 4, 5 and 7 have them, each once. Definitions alone.
 use Prim.Native.Nat.{ℕ, _≤_}
+use mathlib.Core.Path.{_≡_}
+use mathlib.Core.List.{List}
+use lib.ListN.{length}
 use Rattle.quantities.specs.declared.metal_pair.MetalPair.{MetalPair}
 use Rattle.quantities.specs.declared.wire_factor.WireFactor.{WireFactor}
 use Rattle.quantities.specs.Ranges.{Within, PointWithin, FactorWithin}
 use Rattle.tree.specs.Net.{Net, size, sinkAt, required}
+use Rattle.tree.specs.Weights.{weightOf}
 
 -- 02, request 5: "Positions become -100,000,000 to 100,000,000 nanometres"
 abbrev pub positionLimit : ℕ
@@ -37,6 +41,10 @@ slackLimit = 4_000_000_000_000_000
 abbrev pub wireLimit : ℕ
 wireLimit = 1_000_000_000_000
 
+-- 02, request 7: "its weight, 1 to 1,000"
+abbrev pub weightLimit : ℕ
+weightLimit = 1_000
+
 abbrev pub FactorInRange : WireFactor → Type 0
 FactorInRange f = (1 ≤ f .0) × FactorWithin wireFactorLimit f
 
@@ -51,3 +59,8 @@ pub record InRange (N : Net) : Type 0 where
   pub sinks : (1 ≤ size N) × (size N ≤ sinkLimit)
   pub points : (s : ℕ) → 1 ≤ s → s ≤ size N → PointWithin positionLimit (sinkAt N s)
   pub required : (s : ℕ) → 1 ≤ s → s ≤ size N → Within requiredLimit (required N s)
+
+-- a weight for each of n sinks
+pub record WeightsInRange (n : ℕ) (w : List ℕ) : Type 0 where
+  pub size : length w ≡ n
+  pub each : (s : ℕ) → 1 ≤ s → s ≤ n → (1 ≤ weightOf w s) × (weightOf w s ≤ weightLimit)

@@ -1,6 +1,6 @@
-// The ranges of 01 as 02's requests 4 and 5 have them, each once. The same numbers stand in specs/Limits; `limits_agree` fails where one of the two moves.
+// The ranges of 01 as 02's requests 4, 5 and 7 have them, each once. The same numbers stand in specs/Limits; `limits_agree` fails where one of the two moves.
 ghost use mathlib.Core.Path.{_≡_};
-ghost use Rattle.tree.specs.Limits.{positionLimit, branchLimit, wireFactorLimit, needLimit, sinkLimit, requiredLimit, slackLimit, wireLimit};
+ghost use Rattle.tree.specs.Limits.{positionLimit, branchLimit, wireFactorLimit, needLimit, sinkLimit, requiredLimit, slackLimit, wireLimit, weightLimit};
 
 pub const POSITION_LIMIT: u64 = 100_000_000;
 
@@ -18,6 +18,8 @@ pub const SLACK_LIMIT: u64 = 4_000_000_000_000_000;
 
 pub const WIRE_LIMIT: u64 = 1_000_000_000_000;
 
+pub const WEIGHT_LIMIT: u64 = 1_000;
+
 // The constants are those of specs/Limits.
 pub fn limits_agree()
     ensures position { λ r. do ⌜ (← ⟦POSITION_LIMIT⟧ .entry) ≡ positionLimit ⌝ }
@@ -28,4 +30,5 @@ pub fn limits_agree()
     ensures required { λ r. do ⌜ (← ⟦REQUIRED_LIMIT⟧ .entry) ≡ requiredLimit ⌝ }
     ensures slack { λ r. do ⌜ (← ⟦SLACK_LIMIT⟧ .entry) ≡ slackLimit ⌝ }
     ensures wire { λ r. do ⌜ (← ⟦WIRE_LIMIT⟧ .entry) ≡ wireLimit ⌝ }
+    ensures weight { λ r. do ⌜ (← ⟦WEIGHT_LIMIT⟧ .entry) ≡ weightLimit ⌝ }
 {}

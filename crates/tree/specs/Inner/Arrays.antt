@@ -14,7 +14,7 @@ use Rattle.tree.specs.declared.header.Header.{Header}
 use Rattle.tree.specs.Lists.{range}
 use Rattle.tree.specs.Net.{Net, sinkNumbers, branchNumbers}
 use Rattle.tree.specs.Tree.{Tree}
-use Rattle.tree.specs.Limits.{positionLimit, sinkLimit, InRange}
+use Rattle.tree.specs.Limits.{positionLimit, sinkLimit, InRange, WeightsInRange}
 
 -- where vertex v stands
 abbrev pub pointAt : List ℤ → List ℤ → ℕ → Point
@@ -33,6 +33,10 @@ netOf h n xs ys required = record {
   need = h .need .0;
   sinks = map (λ s. record { point = pointAt xs ys s; required = getD required s (pos 0) }) (sinkNumbers n);
 }
+
+-- the weights of the sinks, at the places 1 to n. Each is at least 1 in its range: a negative one stands for none
+abbrev pub weightsOf : ℕ → List ℤ → List ℕ
+weightsOf n weights = map (λ s. up (getD weights s (pos 0))) (sinkNumbers n)
 
 abbrev pub parentsOf : ℕ → List ℕ → List ℕ
 parentsOf n parents = map (λ v. getD parents v 0) (range 1 (2 * n - 1))
@@ -58,6 +62,11 @@ pub record HoldsNet (h : Header) (n : ℕ) (xs ys required : List ℤ) : Type 0 
   pub points : Points (suc n) xs ys
   pub required-long : n < length required
   pub in-range : InRange (netOf h n xs ys required)
+
+-- the weights of its sinks, in range
+pub record HoldsWeights (n : ℕ) (weights : List ℤ) : Type 0 where
+  pub long : n < length weights
+  pub in-range : WeightsInRange n (weightsOf n weights)
 
 -- a tree over it, legal or not, with every vertex in range
 pub record HoldsTree (n : ℕ) (parents : List ℕ) (xs ys : List ℤ) : Type 0 where

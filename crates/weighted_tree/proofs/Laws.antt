@@ -1,0 +1,1 @@
+-- Laws of the tree by switching weights, bottom first.

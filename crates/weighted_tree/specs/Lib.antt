@@ -1,0 +1,4 @@
+-- What a reviewer believes of the tree by switching weights, bottom first.
+pub mod Joining
+pub mod WeightedDelay
+pub mod Marked
