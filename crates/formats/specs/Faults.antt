@@ -95,12 +95,12 @@ plain key ranges = record { key = key; given = []; ranges = ranges; also = nothi
 
 -- ---- the net text
 
--- n lines `sink=X,Y,a`
+-- n lines `sink=X,Y,a,w`
 abbrev pub sinkLines : Point → ℕ → Lines
 sinkLines root zero = end
 sinkLines root (suc n) = line (record { key = sinkKey; given = []; ranges = sinkRanges; also = near root }) (λ zs. sinkLines root n)
 
--- `root=X,Y`, `branch=c`, `wire=h,v`, `need=t`, `sinks=n`, "then n lines `sink=X,Y,a`"
+-- `root=X,Y`, `branch=c`, `wire=h,v`, `need=t`, `sinks=n`, "then n lines `sink=X,Y,a`", with request 7's weight
 abbrev pub linesOfNet : Lines
 linesOfNet =
     line (plain rootKey positionRanges) λ root.

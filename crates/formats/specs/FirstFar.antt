@@ -4,7 +4,7 @@ use mathlib.Core.Path.{_≡_}
 use mathlib.Core.List.{List, _++_}
 use lib.ListN.{length}
 use Rattle.tree.specs.Net.{Net, size}
-use Rattle.tree.specs.Limits.{sinkLimit, InRange}
+use Rattle.tree.specs.Limits.{sinkLimit, InRange, WeightsInRange}
 use Rattle.formats.specs.Limits.{netLengthLimit, pinLimit}
 use Rattle.formats.specs.NetText.{netLines, pinDistance}
 
@@ -18,11 +18,13 @@ pub record FirstFar (N : Net) (v : ℕ) : Type 0 where
 pub record FarPinAt (s : List ℕ) (l : ℕ) : Type 0 where
   -- what the lines up to l say; the sink on line l is its last
   pub net : Net
+  pub weights : List ℕ
   -- what `sinks=` says
   pub count : ℕ
   pub rest : List ℕ
-  pub spelled : s ≡ netLines count net ++ rest
+  pub spelled : s ≡ netLines count net weights ++ rest
   pub in-range : InRange net
+  pub weighed : WeightsInRange (size net) weights
   pub counted : (size net ≤ count) × (count ≤ sinkLimit)
   pub first-far : FirstFar net (size net)
   -- "the sink's line"

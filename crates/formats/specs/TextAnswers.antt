@@ -8,7 +8,7 @@ use Rattle.formats.specs.Outcome.{value, refused}
 use Rattle.formats.specs.NetText.{InFormat}
 use Rattle.formats.specs.ListingText.{Listing, NoSinkParent, ListingInFormat}
 use Rattle.formats.specs.Faults.{NetFault, ListingFault}
-use Rattle.formats.specs.Reading.Nets.{readNet}
+use Rattle.formats.specs.Reading.Nets.{WeightedNet, readWeighted, readNet}
 use Rattle.formats.specs.Reading.Listings.{readListing}
 use Rattle.formats.specs.declared.refusal.Refusal.{Refusal}
 
@@ -16,9 +16,12 @@ use Rattle.formats.specs.declared.refusal.Refusal.{Refusal}
 pub record NetAnswered (s : List ℕ) : Type 0 where
   pub refuses : (e : Refusal) → (readNet s ≡ refused e) ↔ NetFault s e
   pub reads : (N : Net) → (readNet s ≡ value N) ↔ InFormat s N
+  -- and so are its weights
+  pub weighs : (N : Net) (f : InFormat s N) → readWeighted s ≡ value (record { net = N; weights = f .weights })
   pub either : ((N : Net) × InFormat s N) ⊎ ((e : Refusal) × NetFault s e)
   pub not-both : (N : Net) (e : Refusal) → InFormat s N → NetFault s e → ⊥
   pub one-net : (N M : Net) → InFormat s N → InFormat s M → N ≡ M
+  pub one-weighing : (N : Net) (f g : InFormat s N) → f .weights ≡ g .weights
   pub one-fault : (e f : Refusal) → NetFault s e → NetFault s f → e ≡ f
 
 -- the same of a listing of a net of n sinks; a parent that is a sink is a fault of a text in the format

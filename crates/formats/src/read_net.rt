@@ -42,6 +42,7 @@ use tree::limits::NEED_LIMIT;
 use tree::limits::POSITION_LIMIT;
 use tree::limits::REQUIRED_LIMIT;
 use tree::limits::SINK_LIMIT;
+use tree::limits::WEIGHT_LIMIT;
 use tree::limits::WIRE_FACTOR_LIMIT;
 
 // The first five lines, and where the sinks' lines start; or a refusal.
@@ -182,7 +183,10 @@ fn sink_in_range(numbers: Numbers) -> bool
     if !is_inside(numbers.second, around(POSITION_LIMIT)) {
         return false;
     }
-    is_inside(numbers.third, around(REQUIRED_LIMIT))
+    if !is_inside(numbers.third, around(REQUIRED_LIMIT)) {
+        return false;
+    }
+    is_inside(numbers.fourth, up_to(WEIGHT_LIMIT))
 }
 
 // The line of sink s, into the place s of the arrays.
@@ -194,12 +198,13 @@ fn read_sink(
     xs: &mut [i64],
     ys: &mut [i64],
     required: &mut [i64],
+    weights: &mut [i64],
 ) -> SinkLine
-    requires { ⌜ (here .at ≤ length (now text)) × (here .line + 1 < 2 ^ 64) × PointWithin positionLimit root × HasPlace s (now xs) (now ys) (now required) ⌝ }
-    ensures { λ r. ⌜ SinkSays root (now (text .entry)) here s (now (xs .entry)) (now (ys .entry)) (now (required .entry)) r (now (xs .exit)) (now (ys .exit)) (now (required .exit)) ⌝ }
+    requires { ⌜ (here .at ≤ length (now text)) × (here .line + 1 < 2 ^ 64) × PointWithin positionLimit root × HasPlace s (now xs) (now ys) (now required) (now weights) ⌝ }
+    ensures { λ r. ⌜ SinkSays root (now (text .entry)) here s (now (xs .entry)) (now (ys .entry)) (now (required .entry)) (now (weights .entry)) r (now (xs .exit)) (now (ys .exit)) (now (required .exit)) (now (weights .exit)) ⌝ }
 {
     let line = here.line;
-    let Taken::AsDue { numbers, next } = read_line(text, here.at, line, b"sink=", 3) else {
+    let Taken::AsDue { numbers, next } = read_line(text, here.at, line, b"sink=", 4) else {
         return SinkLine::SinkRefused {
             refusal: Refusal::NotDue {
                 text: Text::InNet,
@@ -218,6 +223,7 @@ fn read_sink(
     let x = numbers.first;
     let y = numbers.second;
     let arrival = numbers.third;
+    let weight = numbers.fourth;
     let pin = Point {
         x: x.value(),
         y: y.value(),
@@ -232,6 +238,7 @@ fn read_sink(
     xs[s] = x;
     ys[s] = y;
     required[s] = arrival.value();
+    weights[s] = weight.value();
     SinkLine::SinkRead { next }
 }
 
@@ -244,14 +251,15 @@ fn read_sinks(
     xs: &mut [i64],
     ys: &mut [i64],
     required: &mut [i64],
+    weights: &mut [i64],
 ) -> NetRead
-    requires { ⌜ AtSinks sinkLimit (now text) root n from × HasPlace n (now xs) (now ys) (now required) × (pointAt (now xs) (now ys) 0 ≡ root) ⌝ }
-    ensures { λ r. ⌜ ((h : Header) → afterHead h root n (drop (from .at) (now (text .entry))) ≡ netOutcome h n r (now (xs .exit)) (now (ys .exit)) (now (required .exit))) ⌝ }
+    requires { ⌜ AtSinks sinkLimit (now text) root n from × HasPlace n (now xs) (now ys) (now required) (now weights) × (pointAt (now xs) (now ys) 0 ≡ root) ⌝ }
+    ensures { λ r. ⌜ ((h : Header) → afterHead h root n (drop (from .at) (now (text .entry))) ≡ netOutcome h n r (now (xs .exit)) (now (ys .exit)) (now (required .exit)) (now (weights .exit))) ⌝ }
 {
     let mut here = from;
     let mut done = 0;
     while done < n {
-        match read_sink(text, here, root, done + 1, xs, ys, required) {
+        match read_sink(text, here, root, done + 1, xs, ys, required, weights) {
             SinkLine::SinkRead { next } => {
                 here = next;
             }
@@ -272,7 +280,7 @@ fn read_sinks(
     NetRead::NetHeld
 }
 
-// The rest of a net text, whose head was read. The root and the sinks go to the places 0 to n of `xs` and `ys`, the required arrivals to those of `required`.
+// The rest of a net text, whose head was read. The root and the sinks go to the places 0 to n of `xs` and `ys`, the required arrivals and the weights to those of `required` and `weights`.
 pub fn read_rest(
     text: &[u8],
     root: Point,
@@ -281,13 +289,14 @@ pub fn read_rest(
     xs: &mut [i64],
     ys: &mut [i64],
     required: &mut [i64],
+    weights: &mut [i64],
 ) -> NetRead
-    requires { ⌜ AtSinks sinkLimit (now text) root n next × HasPlace n (now xs) (now ys) (now required) ⌝ }
-    ensures { λ r. ⌜ ((h : Header) → afterHead h root n (drop (next .at) (now (text .entry))) ≡ netOutcome h n r (now (xs .exit)) (now (ys .exit)) (now (required .exit))) ⌝ }
+    requires { ⌜ AtSinks sinkLimit (now text) root n next × HasPlace n (now xs) (now ys) (now required) (now weights) ⌝ }
+    ensures { λ r. ⌜ ((h : Header) → afterHead h root n (drop (next .at) (now (text .entry))) ≡ netOutcome h n r (now (xs .exit)) (now (ys .exit)) (now (required .exit)) (now (weights .exit))) ⌝ }
 {
     let x = root.x;
     let y = root.y;
     xs[0] = x;
     ys[0] = y;
-    read_sinks(text, next, root, n, xs, ys, required)
+    read_sinks(text, next, root, n, xs, ys, required, weights)
 }

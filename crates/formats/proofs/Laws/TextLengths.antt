@@ -14,16 +14,18 @@ use Rattle.quantities.proofs.Laws.Distance.{distance-self}
 use Rattle.tree.specs.Lists.{range}
 use Rattle.tree.specs.Net.{Net, Sink, size, sinkAt, required}
 use Rattle.tree.specs.Tree.{parentOf}
-use Rattle.tree.specs.Limits.{positionLimit, branchLimit, wireFactorLimit, needLimit, sinkLimit, requiredLimit, slackLimit, wireLimit, InRange}
+use Rattle.tree.specs.Weights.{weightOf}
+use Rattle.tree.specs.Limits.{positionLimit, branchLimit, wireFactorLimit, needLimit, sinkLimit, requiredLimit, slackLimit, wireLimit, weightLimit, InRange, WeightsInRange}
 use Rattle.formats.specs.Limits.{netLengthLimit, pinLimit, listingLengthLimit}
 use Rattle.formats.specs.Decimal.{digits, showNat, show}
-use Rattle.formats.specs.NetText.{sinkKey, sinksText, netLines, netText, pinDistance, InFormat}
-use Rattle.formats.specs.TextLengths.{corner, longestNet, longestListing, TextLengths}
+use Rattle.formats.specs.NetText.{sinkKey, WeightedSink, sinksText, weighted, netLines, netText, pinDistance, InFormat}
+use Rattle.formats.specs.TextLengths.{corner, longestNet, longestWeights, longestListing, TextLengths}
 use Rattle.formats.specs.ListingText.{Listing, leafKey, nodeKey, nodePoint, leafText, nodeText, linesText, listingText, ListingInRange, ListingInFormat}
 use Rattle.formats.proofs.Laws.Numbers.Decimal.{showNat-length, show-length}
 use Rattle.formats.proofs.Laws.Lines.Elements.{All}
-use Rattle.formats.proofs.Laws.Nets.SinkTexts.{SinkIn}
-use Rattle.formats.proofs.Laws.Nets.NetTexts.{sinks-in}
+use Rattle.formats.proofs.Laws.Nets.Weighing.{weighted-length}
+use Rattle.formats.proofs.Laws.Nets.SinkTexts.{LineIn}
+use Rattle.formats.proofs.Laws.Nets.NetTexts.{lines-in}
 
 -- ---- numbers
 
@@ -40,7 +42,7 @@ abbrev positionWidth : ℕ
 positionWidth = suc (width positionLimit)
 
 abbrev sinkWidth : ℕ
-sinkWidth = length sinkKey + (2 * positionWidth + suc (width requiredLimit) + 3)
+sinkWidth = length sinkKey + (2 * positionWidth + suc (width requiredLimit) + width weightLimit + 4)
 
 abbrev leafWidth : ℕ
 leafWidth = length leafKey + (width sinkLimit + width (2 * sinkLimit) + 2)
@@ -62,15 +64,15 @@ position z h = ranged positionLimit (width positionLimit) z h (omega arith) (ome
 
 -- ---- a net
 
-sinks-short : (l : List Sink) → All SinkIn l → length (sinksText l) ≤ length l * sinkWidth
+sinks-short : (l : List WeightedSink) → All LineIn l → length (sinksText l) ≤ length l * sinkWidth
 sinks-short [] h = omega arith
 sinks-short (s ∷ l) h =
     simp length-append
-    (omega (arith, position (s .point .x) (h .0 .0 .0), position (s .point .y) (h .0 .0 .1), ranged requiredLimit (width requiredLimit) (s .required) (h .0 .1) (omega arith) (omega arith), sinks-short l (h .1)))
+    (omega (arith, position (s .sink .point .x) (h .0 .0 .0 .0), position (s .sink .point .y) (h .0 .0 .0 .1), ranged requiredLimit (width requiredLimit) (s .sink .required) (h .0 .0 .1) (omega arith) (omega arith), plain (s .weight) (width weightLimit) (omega (arith, h .0 .1)) (omega arith), sinks-short l (h .1)))
 
-pub net-short : (N : Net) → InRange N → length (netText N) ≤ netLengthLimit
+pub net-short : (N : Net) (w : List ℕ) → InRange N → WeightsInRange (size N) w → length (netText N w) ≤ netLengthLimit
 unfolding netLines
-net-short N h =
+net-short N w h v =
     simp length-append
     (omega (
       arith,
@@ -81,7 +83,8 @@ net-short N h =
       plain (N .wire .vertical .0) (width wireFactorLimit) (omega (arith, h .wire .1)) (omega arith),
       ranged needLimit (width needLimit) (N .need) (h .need) (omega arith) (omega arith),
       plain (size N) (width sinkLimit) (omega (arith, h .sinks)) (omega arith),
-      sinks-short (N .sinks) (sinks-in N h),
+      sinks-short (weighted (N .sinks) w) (lines-in N w h v),
+      ap (λ (k : ℕ). k * sinkWidth) (weighted-length (N .sinks) w (v .size)),
     ))
 
 -- ---- a listing
@@ -130,8 +133,8 @@ module _ (n : ℕ) (G : Listing) (h : ListingInRange n G) where
 
 -- ---- so what is in range, and near enough, has a text in the format
 
-pub net-in-format : (N : Net) → InRange N → ((v : ℕ) → 1 ≤ v → v ≤ size N → pinDistance N v ≤ pinLimit) → InFormat (netText N) N
-net-in-format N h near = record { spelled = refl; in-range = h; near = near; short = net-short N h }
+pub net-in-format : (N : Net) (w : List ℕ) → InRange N → WeightsInRange (size N) w → ((v : ℕ) → 1 ≤ v → v ≤ size N → pinDistance N v ≤ pinLimit) → InFormat (netText N w) N
+net-in-format N w h k near = record { weights = w; spelled = refl; in-range = h; weighed = k; near = near; short = net-short N w h k }
 
 pub listing-in-format : (n : ℕ) (G : Listing) → ListingInRange n G → ListingInFormat n (listingText n G) G
 listing-in-format n G h = record { spelled = refl; in-range = h; short = listing-short n G h }
@@ -165,6 +168,15 @@ longest-in-range = record {
   required = λ s h l. subst (Within requiredLimit) (sym (longest-due s h l)) (omega (arith, whole), omega (arith, whole));
 }
 
+longest-weighed : WeightsInRange (size longestNet) longestWeights
+longest-weighed = record { size = length-replicate sinkLimit weightLimit ∙ sym (length-replicate sinkLimit longestSink); each = each }
+  where
+    each : (s : ℕ) → 1 ≤ s → s ≤ size longestNet → (1 ≤ weightOf longestWeights s) × (weightOf longestWeights s ≤ weightLimit)
+    each zero p q = absurd (omega arith)
+    each (suc i) p q =
+        let e : weightOf longestWeights (suc i) ≡ weightLimit = getD-replicate sinkLimit i weightLimit 0 (omega (arith, length-replicate sinkLimit longestSink)) in
+        (omega arith, omega arith)
+
 longest-near : (v : ℕ) → 1 ≤ v → v ≤ size longestNet → pinDistance longestNet v ≤ pinLimit
 longest-near v h l = let e : pinDistance longestNet v ≡ 0 = ap (distance corner) (longest-at v h l) ∙ distance-self corner in omega arith
 
@@ -184,6 +196,6 @@ unfolding netLines listingText digits showNat show
 text-lengths = record {
   nets = net-short;
   listings = listing-short;
-  longest-net = (net-in-format longestNet longest-in-range longest-near, refl);
+  longest-net = (net-in-format longestNet longestWeights longest-in-range longest-weighed longest-near, refl);
   longest-listing = (listing-in-format sinkLimit longestListing longest-listed, refl);
 }

@@ -10,13 +10,13 @@ use Rattle.quantities.specs.declared.point.Point.{Point}
 use Rattle.quantities.specs.Inner.Linear.{up}
 use Rattle.quantities.specs.Ranges.{PointWithin}
 use Rattle.tree.specs.declared.header.Header.{Header}
-use Rattle.tree.specs.Net.{Net, Sink, sinkNumbers}
-use Rattle.tree.specs.Inner.Arrays.{pointAt, netOf}
+use Rattle.tree.specs.Net.{sinkNumbers}
+use Rattle.tree.specs.Inner.Arrays.{pointAt, netOf, weightsOf}
 use Rattle.tree.specs.Limits.{positionLimit, sinkLimit}
 use Rattle.formats.specs.Outcome.{Outcome, value, refused, andThen}
-use Rattle.formats.specs.NetText.{both}
+use Rattle.formats.specs.NetText.{WeightedSink, both}
 use Rattle.formats.specs.Reading.Lines.{inside, Read, due, dueNumber}
-use Rattle.formats.specs.Reading.Nets.{Head, dueBranch, dueWire, dueNeed, dueCount, sinkOf, dueSink, readRest, netWith, readNet}
+use Rattle.formats.specs.Reading.Nets.{Head, dueBranch, dueWire, dueNeed, dueCount, sinkOf, dueSink, readRest, WeightedNet, netWith, readWeighted}
 use Rattle.formats.specs.declared.ranges.Range.{Range}
 use Rattle.formats.specs.declared.refusal.Text.{Text}
 use Rattle.formats.specs.declared.refusal.Text.the-variants.{InNet}
@@ -91,46 +91,48 @@ abbrev pub fromBranch : Point → List ℕ → Outcome (Read Head)
 fromBranch root s = andThen (dueBranch s) λ branch. fromWire root (branch .got) (branch .rest)
 
 -- what is left to read of the text s after its head
-abbrev pub afterHead : Header → Point → ℕ → List ℕ → Outcome Net
+abbrev pub afterHead : Header → Point → ℕ → List ℕ → Outcome WeightedNet
 afterHead h root n s = andThen (readRest root n s) λ sinks. value (netWith (headOf h root n) sinks)
 
 -- the head of the text s is read, with at most so many sinks
 abbrev pub HeadHeld : ℕ → List ℕ → Header → Point → ℕ → Place → Type 0
-HeadHeld most s h root n next = (readNet s ≡ afterHead h root n (drop (next .at) s)) × AtSinks most s root n next
+HeadHeld most s h root n next = (readWeighted s ≡ afterHead h root n (drop (next .at) s)) × AtSinks most s root n next
 
 abbrev pub NetHeadSays : List ℕ → HeadLines → Type 0
 NetHeadSays s (HeadRead h root n next) = HeadHeld sinkLimit s h root n next
-NetHeadSays s (HeadRefused e) = readNet s ≡ refused e
+NetHeadSays s (HeadRefused e) = readWeighted s ≡ refused e
 
 -- ---- the sinks
 
 -- the arrays have a place i
-abbrev pub HasPlace : ℕ → List ℤ → List ℤ → List ℤ → Type 0
-HasPlace i xs ys required = (i < length xs) × (i < length ys) × (i < length required)
+abbrev pub HasPlace : ℕ → List ℤ → List ℤ → List ℤ → List ℤ → Type 0
+HasPlace i xs ys required weights = (i < length xs) × (i < length ys) × (i < length required) × (i < length weights)
 
 -- the sinks that the arrays hold at the places 1 to n
-abbrev pub sinkHeld : List ℤ → List ℤ → List ℤ → ℕ → Sink
-sinkHeld xs ys required i = record { point = pointAt xs ys i; required = getD required i (pos 0) }
+abbrev pub sinkHeld : List ℤ → List ℤ → List ℤ → List ℤ → ℕ → WeightedSink
+sinkHeld xs ys required weights i = record { sink = record { point = pointAt xs ys i; required = getD required i (pos 0) }; weight = up (getD weights i (pos 0)) }
 
-abbrev pub sinksHeld : List ℤ → List ℤ → List ℤ → ℕ → List Sink
-sinksHeld xs ys required n = map (sinkHeld xs ys required) (sinkNumbers n)
+abbrev pub sinksHeld : List ℤ → List ℤ → List ℤ → List ℤ → ℕ → List WeightedSink
+sinksHeld xs ys required weights n = map (sinkHeld xs ys required weights) (sinkNumbers n)
 
 -- the line of a sink was read into the place i of the arrays, and the next line stands at `next`
-pub record SinkStored (root : Point) (s : List ℕ) (here : Place) (i : ℕ) (xs ys required : List ℤ) (next : Place) (xs′ ys′ required′ : List ℤ) : Type 0 where
+pub record SinkStored (root : Point) (s : List ℕ) (here : Place) (i : ℕ) (xs ys required weights : List ℤ) (next : Place) (xs′ ys′ required′ weights′ : List ℤ) : Type 0 where
   pub x : ℤ
   pub y : ℤ
   pub a : ℤ
-  pub read-to : ReadTo (dueSink root (here .line) (drop (here .at) s)) (sinkOf (x ∷ (y ∷ (a ∷ [])))) s (here .line + 1) next
+  pub w : ℤ
+  pub read-to : ReadTo (dueSink root (here .line) (drop (here .at) s)) (sinkOf (x ∷ (y ∷ (a ∷ (w ∷ []))))) s (here .line + 1) next
   pub xs-is : xs′ ≡ set xs i x
   pub ys-is : ys′ ≡ set ys i y
   pub required-is : required′ ≡ set required i a
+  pub weights-is : weights′ ≡ set weights i w
 
--- what an answer to the line of a sink at `here` says: xs′, ys′ and required′ are the arrays after it
-abbrev pub SinkSays : Point → List ℕ → Place → ℕ → List ℤ → List ℤ → List ℤ → SinkLine → List ℤ → List ℤ → List ℤ → Type 0
-SinkSays root s here i xs ys required (SinkRead next) xs′ ys′ required′ = SinkStored root s here i xs ys required next xs′ ys′ required′
-SinkSays root s here i xs ys required (SinkRefused e) xs′ ys′ required′ = dueSink root (here .line) (drop (here .at) s) ≡ refused e
+-- what an answer to the line of a sink at `here` says: the arrays with a stroke are those after it
+abbrev pub SinkSays : Point → List ℕ → Place → ℕ → List ℤ → List ℤ → List ℤ → List ℤ → SinkLine → List ℤ → List ℤ → List ℤ → List ℤ → Type 0
+SinkSays root s here i xs ys required weights (SinkRead next) xs′ ys′ required′ weights′ = SinkStored root s here i xs ys required weights next xs′ ys′ required′ weights′
+SinkSays root s here i xs ys required weights (SinkRefused e) xs′ ys′ required′ weights′ = dueSink root (here .line) (drop (here .at) s) ≡ refused e
 
--- the net that the arrays hold under the header h, or the refusal
-abbrev pub netOutcome : Header → ℕ → NetRead → List ℤ → List ℤ → List ℤ → Outcome Net
-netOutcome h n NetHeld xs ys required = value (netOf h n xs ys required)
-netOutcome h n (NetRefused e) xs ys required = refused e
+-- the net that the arrays hold under the header h with its weights, or the refusal
+abbrev pub netOutcome : Header → ℕ → NetRead → List ℤ → List ℤ → List ℤ → List ℤ → Outcome WeightedNet
+netOutcome h n NetHeld xs ys required weights = value (record { net = netOf h n xs ys required; weights = weightsOf n weights })
+netOutcome h n (NetRefused e) xs ys required weights = refused e

@@ -11,14 +11,14 @@ use native.Mathlib.Omega.{arith}
 use borrow.Author.Tests.{ltb-true, ltb-false, lt-ltb, le-ltb}
 use Rattle.quantities.specs.declared.point.Point.{Point}
 use Rattle.quantities.specs.Distance.{distance}
-use Rattle.tree.specs.Net.{Net, Sink}
+use Rattle.tree.specs.Net.{Net}
 use Rattle.tree.specs.Limits.{branchLimit, needLimit, sinkLimit}
 use Rattle.formats.specs.Limits.{netLengthLimit, pinLimit}
 use Rattle.formats.specs.Outcome.{Outcome, value, refused, andThen}
 use Rattle.formats.specs.Ranges.{around, upTo, at}
 use Rattle.formats.specs.Reading.Lines.{Read}
-use Rattle.formats.specs.NetText.{rootKey, branchKey, wireKey, needKey, sinksKey, sinkKey, positionRanges, factorRanges, sinkRanges, pointOf, InFormat}
-use Rattle.formats.specs.Reading.Nets.{sinkOf, nearOnly, Head, metalsOf, dueRoot, dueBranch, dueWire, dueNeed, dueCount, dueSink, readSinks, readRest, netWith, readNetLines, readNet}
+use Rattle.formats.specs.NetText.{rootKey, branchKey, wireKey, needKey, sinksKey, sinkKey, positionRanges, factorRanges, WeightedSink, sinkRanges, pointOf, InFormat}
+use Rattle.formats.specs.Reading.Nets.{sinkOf, nearOnly, Head, metalsOf, dueRoot, dueBranch, dueWire, dueNeed, dueCount, dueSink, readSinks, readRest, WeightedNet, netWith, readNetLines, readWeighted, readNet}
 use Rattle.formats.specs.Inner.Readers.{fromCount, fromNeed, fromWire, fromBranch}
 use Rattle.formats.specs.Faults.{near, Bars, far-pin, plain, end, sinkLines, linesOfNet, NetFault, too-long, on-line}
 use Rattle.formats.specs.TextAnswers.{NetAnswered}
@@ -27,7 +27,7 @@ use Rattle.formats.specs.declared.refusal.Refusal.{Refusal}
 use Rattle.formats.specs.declared.refusal.Refusal.the-variants.{TooLong, FarPin}
 use Rattle.formats.proofs.Laws.Lines.DueTexts.{never}
 use Rattle.formats.proofs.Laws.Lines.Outcomes.{same-refusal, then-then}
-use Rattle.formats.proofs.Laws.Nets.NetTexts.{net-sound, net-complete, net-one}
+use Rattle.formats.proofs.Laws.Nets.NetTexts.{net-sound, net-complete, weighted-complete, both-refuse, refused-both, net-one, weights-one}
 use Rattle.formats.proofs.Laws.Faults.Steps.{asking, Tried, reading-tried, due-tried, number-tried, natural-tried, Asked, bars, passes, asked-tried}
 use Rattle.formats.proofs.Laws.Faults.TextFaults.{Told, relined, retold, then-told, ended-told}
 
@@ -37,11 +37,11 @@ module _ (root : Point) (l : ℕ) where
   far : (zs : List ℤ) (e : Refusal) → Bars l zs (near root) e → pinLimit < distance root (pointOf zs)
   far zs e (far-pin h) = h
 
-  near-asked : (zs : List ℤ) (r : List ℕ) → Asked {A = Read Sink} l zs (near root) (record { got = sinkOf zs; rest = r }) (nearOnly root l (record { got = sinkOf zs; rest = r }))
+  near-asked : (zs : List ℤ) (r : List ℕ) → Asked {A = Read WeightedSink} l zs (near root) (record { got = sinkOf zs; rest = r }) (nearOnly root l (record { got = sinkOf zs; rest = r }))
   near-asked zs r = go (ltb pinLimit (distance root (pointOf zs))) refl
     where
       go : (b : Bool) → ltb pinLimit (distance root (pointOf zs)) ≡ b
-          → Asked {A = Read Sink} l zs (near root) (record { got = sinkOf zs; rest = r }) (elim b [ true ↦ refused (FarPin l) | false ↦ value (record { got = sinkOf zs; rest = r }) ])
+          → Asked {A = Read WeightedSink} l zs (near root) (record { got = sinkOf zs; rest = r }) (elim b [ true ↦ refused (FarPin l) | false ↦ value (record { got = sinkOf zs; rest = r }) ])
       go true q = bars (far-pin (ltb-true pinLimit (distance root (pointOf zs)) q))
       go false q = passes (λ e b. absurd (omega (arith, far zs e b, ltb-false pinLimit (distance root (pointOf zs)) q)))
 
@@ -50,7 +50,7 @@ module _ (root : Point) (l : ℕ) where
       asked-tried InNet l sinkKey [] sinkRanges (near root) s sinkOf (nearOnly root l) (λ zs r h. near-asked zs r) _
       (reading-tried sinkOf (due-tried InNet l sinkKey sinkRanges s (omega arith)))
 
-sinks-told : {A : Type 0} (root : Point) (k l : ℕ) (s : List ℕ) (next : Read (List Sink) → Outcome A) → ((sinks : List Sink) (r : List ℕ) → Told InNet end (k + l) r (next (record { got = sinks; rest = r })))
+sinks-told : {A : Type 0} (root : Point) (k l : ℕ) (s : List ℕ) (next : Read (List WeightedSink) → Outcome A) → ((sinks : List WeightedSink) (r : List ℕ) → Told InNet end (k + l) r (next (record { got = sinks; rest = r })))
     → Told InNet (sinkLines root k) l s (andThen (readSinks root k l s) next)
 sinks-told root zero l s next h = relined (omega arith) (h [] s)
 sinks-told root (suc k) l s next h =
@@ -63,7 +63,7 @@ sinks-told root (suc k) l s next h =
 -- ---- the head
 
 -- what is made of the head and of what is left of the text
-abbrev afterHead : Read Head → Outcome Net
+abbrev afterHead : Read Head → Outcome WeightedNet
 afterHead head = andThen (readRest (head .got .root) (head .got .count) (head .rest)) λ sinks. value (netWith (head .got) sinks)
 
 rest-told : (h : Head) (s : List ℕ) → Told InNet (sinkLines (h .root) (h .count)) 6 s (afterHead (record { got = h; rest = s }))
@@ -94,17 +94,17 @@ net-told s =
 
 module _ (s : List ℕ) where
   net-found : (e : Refusal) → readNet s ≡ refused e → NetFault s e
-  unfolding readNet
-  net-found e u = go (ltb netLengthLimit (length s)) refl u
+  unfolding readWeighted
+  net-found e u = go (ltb netLengthLimit (length s)) refl (refused-both s e u)
     where
-      go : (b : Bool) → ltb netLengthLimit (length s) ≡ b → _≡_ {A = Outcome Net} (elim b [ true ↦ refused (TooLong InNet) | false ↦ readNetLines s ]) (refused e) → NetFault s e
-      go true q w = subst (NetFault s) (same-refusal {A = Net} (TooLong InNet) e w) (too-long (ltb-true netLengthLimit (length s) q))
+      go : (b : Bool) → ltb netLengthLimit (length s) ≡ b → _≡_ {A = Outcome WeightedNet} (elim b [ true ↦ refused (TooLong InNet) | false ↦ readNetLines s ]) (refused e) → NetFault s e
+      go true q w = subst (NetFault s) (same-refusal {A = WeightedNet} (TooLong InNet) e w) (too-long (ltb-true netLengthLimit (length s) q))
       go false q w = on-line (ltb-false netLengthLimit (length s) q) (net-told s .sound e w)
 
   net-only : (e : Refusal) → NetFault s e → readNet s ≡ refused e
-  unfolding readNet
-  net-only e (too-long h) = rw (readNet, lt-ltb netLengthLimit (length s) h)
-  net-only e (on-line h f) = rw (readNet, le-ltb netLengthLimit (length s) h) (net-told s .complete e f)
+  unfolding readWeighted
+  net-only e (too-long h) = both-refuse s e (rw (readWeighted, lt-ltb netLengthLimit (length s) h))
+  net-only e (on-line h f) = both-refuse s e (rw (readWeighted, le-ltb netLengthLimit (length s) h) (net-told s .complete e f))
 
   net-either : ((N : Net) × InFormat s N) ⊎ ((e : Refusal) × NetFault s e)
   net-either = go (readNet s) refl
@@ -117,8 +117,10 @@ module _ (s : List ℕ) where
   net-answered = record {
     refuses = λ e. (net-found e, net-only e);
     reads = λ N. (net-sound s N, net-complete s N);
+    weighs = weighted-complete s;
     either = net-either;
     not-both = λ N e f g. never N e (sym (net-complete s N f) ∙ net-only e g);
     one-net = net-one s;
+    one-weighing = weights-one s;
     one-fault = λ e f g h. same-refusal {A = Net} e f (sym (net-only e g) ∙ net-only f h);
   }

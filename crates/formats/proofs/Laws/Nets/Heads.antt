@@ -17,7 +17,7 @@ use Rattle.formats.specs.Outcome.{Outcome, value, refused, andThen}
 use Rattle.formats.specs.Ranges.{around, upTo}
 use Rattle.formats.specs.Reading.Lines.{Read, due, dueNumber}
 use Rattle.formats.specs.NetText.{rootKey, branchKey, wireKey, needKey, sinksKey, positionRanges, factorRanges}
-use Rattle.formats.specs.Reading.Nets.{Head, readHead, readRest, netWith, readNet}
+use Rattle.formats.specs.Reading.Nets.{Head, readHead, readRest, netWith, readWeighted}
 use Rattle.formats.specs.Inner.Readers.{NumberTaken, PairTaken, headOf, HeadSays, NetHeadSays, fromBranch, fromWire, fromNeed, fromCount}
 use Rattle.formats.specs.declared.ranges.Range.{Range}
 use Rattle.formats.specs.declared.refusal.Text.the-variants.{InNet}
@@ -97,14 +97,14 @@ module _ (root : Point) (c : ℕ) (s : List ℕ) (here : Place) (line-is : here 
 -- ---- "length first"
 
 module _ (s : List ℕ) where
-  pub net-long : netLengthLimit < length s → readNet s ≡ refused (TooLong InNet)
-  unfolding readNet
-  net-long h = rw (readNet, lt-ltb netLengthLimit (length s) h)
+  pub net-long : netLengthLimit < length s → readWeighted s ≡ refused (TooLong InNet)
+  unfolding readWeighted
+  net-long h = rw (readWeighted, lt-ltb netLengthLimit (length s) h)
 
   pub net-short : length s ≤ netLengthLimit → (r : HeadLines) → HeadSays (readHead s) s r → NetHeadSays s r
-  unfolding readNet
+  unfolding readWeighted
   net-short h (HeadRead g root n next) w = (
-    rw (readNet, le-ltb netLengthLimit (length s) h) (then-value (λ head. andThen (readRest (head .got .root) (head .got .count) (head .rest)) (λ sinks. value (netWith (head .got) sinks))) (w .0)),
+    rw (readWeighted, le-ltb netLengthLimit (length s) h) (then-value (λ head. andThen (readRest (head .got .root) (head .got .count) (head .rest)) (λ sinks. value (netWith (head .got) sinks))) (w .0)),
     w .1,
   )
-  net-short h (HeadRefused e) w = rw (readNet, le-ltb netLengthLimit (length s) h) (then-refused _ w)
+  net-short h (HeadRefused e) w = rw (readWeighted, le-ltb netLengthLimit (length s) h) (then-refused _ w)

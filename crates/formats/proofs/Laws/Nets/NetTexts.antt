@@ -1,4 +1,4 @@
--- A text is read as a net exactly when it is in the format; every other text is refused by 1, 2, 3, 4 or 13, at a line that this number may have, and by 13
+-- A text is read as a net, with its weights, exactly when it is in the format; every other text is refused by 1, 2, 3, 4 or 13, at a line that this number may have, and by 13
 -- exactly when it tells of a sink too far off. Assumes nothing.
 use Prim.Native.Nat.{ℕ, zero, suc, _+_, _≤_, _<_}
 use mathlib.Core.Path.{_≡_, refl, sym, ap, subst, _∙_}
@@ -16,24 +16,25 @@ use Rattle.quantities.specs.declared.point.Point.{Point}
 use Rattle.quantities.specs.Distance.{distance}
 use Rattle.quantities.specs.Ranges.{Within, PointWithin}
 use Rattle.tree.specs.Net.{Net, Sink, size, sinkAt, required}
-use Rattle.tree.specs.Limits.{positionLimit, branchLimit, wireFactorLimit, needLimit, sinkLimit, requiredLimit, FactorsInRange, InRange}
+use Rattle.tree.specs.Limits.{positionLimit, branchLimit, wireFactorLimit, needLimit, sinkLimit, requiredLimit, FactorsInRange, InRange, WeightsInRange}
 use Rattle.formats.specs.Limits.{netLengthLimit, pinLimit}
 use Rattle.formats.specs.Line.{lineText}
 use Rattle.formats.specs.Refusals.{told}
 use Rattle.formats.specs.Outcome.{Outcome, value, refused, andThen}
 use Rattle.formats.specs.Ranges.{around, upTo}
 use Rattle.formats.specs.Reading.Lines.{Read, due, ended}
-use Rattle.formats.specs.NetText.{rootKey, branchKey, wireKey, needKey, sinksKey, sinksText, netLines, netText, pinDistance, InFormat, positionRanges, factorRanges}
-use Rattle.formats.specs.Reading.Nets.{Head, metalsOf, dueRoot, dueBranch, dueWire, dueNeed, dueCount, readHead, readSinks, readRest, netWith, readNetLines, readNet}
+use Rattle.formats.specs.NetText.{rootKey, branchKey, wireKey, needKey, sinksKey, WeightedSink, sinksText, weighted, netLines, netText, pinDistance, InFormat, positionRanges, factorRanges}
+use Rattle.formats.specs.Reading.Nets.{Head, metalsOf, dueRoot, dueBranch, dueWire, dueNeed, dueCount, readHead, readSinks, readRest, WeightedNet, netWith, readNetLines, readWeighted, readNet}
 use Rattle.formats.specs.FirstFar.{FirstFar, FarPinAt}
 use Rattle.formats.specs.Inner.Readers.{fromCount, fromNeed, fromWire, fromBranch}
 use Rattle.formats.specs.declared.refusal.Text.the-variants.{InNet}
 use Rattle.formats.specs.declared.refusal.Refusal.{Refusal}
 use Rattle.formats.specs.declared.refusal.Refusal.the-variants.{TooLong, NotDue, OutOfRange, BytesFollow, FarPin}
 use Rattle.formats.proofs.Laws.Lines.Elements.{All, all-at, all-map}
-use Rattle.formats.proofs.Laws.Lines.Outcomes.{then-then, then-value}
+use Rattle.formats.proofs.Laws.Lines.Outcomes.{then-then, then-value, then-refused}
 use Rattle.formats.proofs.Laws.Lines.DueTexts.{In, never, LineRefusal, due-cases, number-cases, natural-cases, due-complete, number-complete, natural-complete, natural-of}
-use Rattle.formats.proofs.Laws.Nets.SinkTexts.{SinkIn, Near, FarAt, sinks-cases, sinks-complete, sinks-far, far-at, at-far}
+use Rattle.formats.proofs.Laws.Nets.Weighing.{sinksOf, weightsIn, sinks-length, weights-length, parts-weighted, weighted-sinks, weighted-weights, weighted-length, all-weighted, WeightIn, weights-in-range, weights-all}
+use Rattle.formats.proofs.Laws.Nets.SinkTexts.{SinkIn, LineIn, Near, FarAt, sinks-cases, sinks-complete, sinks-far, far-at, at-far}
 
 -- ---- the sinks
 
@@ -150,89 +151,151 @@ head-complete h r w =
 abbrev headWith : ℕ → Net → Head
 headWith n N = record { root = N .root; branch = N .branch; wire = N .wire; need = N .need; count = n }
 
-lines-then : (n : ℕ) (N : Net) (r : List ℕ) → netLines n N ++ r ≡ headText (headWith n N) (sinksText (N .sinks) ++ r)
+lines-then : (n : ℕ) (N : Net) (w r : List ℕ) → netLines n N w ++ r ≡ headText (headWith n N) (sinksText (weighted (N .sinks) w) ++ r)
 unfolding netLines
-lines-then n N r = simp append-assoc
+lines-then n N w r = simp append-assoc
 
 head-in : (n : ℕ) (N : Net) → InRange N → (1 ≤ n) × (n ≤ sinkLimit) → HeadIn (headWith n N)
 head-in n N h p = record { root = h .root; branch = h .branch; wire = h .wire; need = h .need; count = p }
 
-in-range : (h : Head) (sinks : List Sink) → HeadIn h → All SinkIn sinks → 1 ≤ length sinks → length sinks ≤ sinkLimit → InRange (netWith h sinks)
+-- the sinks of some lines in range are, and so are their weights
+plain-in : (sinks : List WeightedSink) → All LineIn sinks → All SinkIn (sinksOf sinks)
+plain-in sinks h = all-map LineIn (λ s. s .sink) SinkIn (λ s w. w .0) sinks h
+
+in-range : (h : Head) (sinks : List WeightedSink) → HeadIn h → All LineIn sinks → 1 ≤ length sinks → length sinks ≤ sinkLimit → InRange (netWith h sinks .net)
 in-range h sinks w k p q = record {
   root = w .root;
   branch = w .branch;
   wire = w .wire;
   need = w .need;
-  sinks = (p, q);
-  points = λ s p q. numbered (netWith h sinks) k s p q .0;
-  required = λ s p q. numbered (netWith h sinks) k s p q .1;
+  sinks = (rw length-map p, rw length-map q);
+  points = λ s p q. numbered (netWith h sinks .net) (plain-in sinks k) s p q .0;
+  required = λ s p q. numbered (netWith h sinks .net) (plain-in sinks k) s p q .1;
 }
 
+weighed : (h : Head) (sinks : List WeightedSink) → All LineIn sinks → WeightsInRange (size (netWith h sinks .net)) (weightsIn sinks)
+weighed h sinks k = weights-in-range _ (weightsIn sinks) (weights-length sinks ∙ sym (sinks-length sinks)) (all-map LineIn (λ s. s .weight) WeightIn (λ s w. w .1) sinks k)
+
+-- the text is in the format of the net M with its weights
+abbrev WeightedFormat : List ℕ → WeightedNet → Type 0
+WeightedFormat s M = (f : InFormat s (M .net)) × (f .weights ≡ M .weights)
+
 -- a text within its length: its lines are those of a net in the format; or it is refused
-net-cases : {C : Type 0} (s : List ℕ) → length s ≤ netLengthLimit → (o : Outcome Net) → readNetLines s ≡ o → ((l : ℕ) (e : Refusal) → 1 ≤ l → l ≤ 5 + sinkLimit → LineRefusal InNet l e → o ≡ refused e → C)
-    → ((l : ℕ) → 7 ≤ l → l ≤ 6 + sinkLimit → o ≡ refused (BytesFollow InNet l) → C) → ((l : ℕ) → FarPinAt s l → o ≡ refused (FarPin l) → C) → ((N : Net) → InFormat s N → value N ≡ o → C) → C
+net-cases : {C : Type 0} (s : List ℕ) → length s ≤ netLengthLimit → (o : Outcome WeightedNet) → readNetLines s ≡ o → ((l : ℕ) (e : Refusal) → 1 ≤ l → l ≤ 5 + sinkLimit → LineRefusal InNet l e → o ≡ refused e → C)
+    → ((l : ℕ) → 7 ≤ l → l ≤ 6 + sinkLimit → o ≡ refused (BytesFollow InNet l) → C) → ((l : ℕ) → FarPinAt s l → o ≡ refused (FarPin l) → C) → ((M : WeightedNet) → WeightedFormat s M → value M ≡ o → C) → C
 net-cases s short o e bad long far f =
     head-cases s _ o e (λ l d p q b u. bad l d p (omega arith) b u) λ h s₅ w t₅ u₅.
     let n : ℕ = h .count in
     let e₆ = sym (then-then (readSinks (h .root) n 6 s₅) _ (λ sinks. value (netWith h sinks))) ∙ u₅ in
-    let spells : (sinks : List Sink) (r : List ℕ) → s₅ ≡ sinksText sinks ++ r → s ≡ netLines n (netWith h sinks) ++ r = λ sinks r t. t₅ ∙ ap (headText h) t ∙ sym (lines-then n (netWith h sinks) r) in
+    let spells : (sinks : List WeightedSink) (r : List ℕ) → s₅ ≡ sinksText sinks ++ r → s ≡ netLines n (netWith h sinks .net) (weightsIn sinks) ++ r
+    = λ sinks r t. t₅ ∙ ap (headText h) (t ∙ ap (λ l. sinksText l ++ r) (sym (parts-weighted sinks))) ∙ sym (lines-then n (netWith h sinks .net) (weightsIn sinks) r) in
     sinks-cases (h .root) n 6 s₅ _ o e₆
     (λ j d p q b u. bad j d (omega arith) (omega (arith, w .count)) b u)
     (λ sinks i r k p t₆ g v u.
     far (6 + i) (record {
-      net = netWith h sinks;
+      net = netWith h sinks .net;
+      weights = weightsIn sinks;
       count = n;
       rest = r;
       spelled = spells sinks r t₆;
       in-range = in-range h sinks w g (omega arith) (omega (arith, w .count));
-      counted = (omega arith, w .count .1);
-      first-far = rw k (numbered-far (netWith h sinks) i v);
-      line-is = omega arith;
+      weighed = weighed h sinks g;
+      counted = (omega (arith, sinks-length sinks), w .count .1);
+      first-far = rw (sinks-length sinks, k) (numbered-far (netWith h sinks .net) i v);
+      line-is = omega (arith, sinks-length sinks);
       short = short;
     }) u)
     λ sinks s₆ k t₆ g v u₆.
-    let N : Net = netWith h sinks in
+    let N : Net = netWith h sinks .net in
+    let size-is : length (sinksOf sinks) ≡ n = sinks-length sinks ∙ k in
     ended-then (n + 6) sinks s₆ (λ sinks. netWith h sinks) o u₆ (λ u. long (n + 6) (omega (arith, w .count)) (omega (arith, w .count)) u) λ z u₇.
-    let spelled : s ≡ netText N = spells sinks s₆ t₆ ∙ rw (z, k, append-nil) refl in
-    f N (record { spelled = spelled; in-range = in-range h sinks w g (omega (arith, w .count)) (omega (arith, w .count)); near = numbered-near N v; short = short }) u₇
+    let spelled : s ≡ netText N (weightsIn sinks) = spells sinks s₆ t₆ ∙ rw (z, size-is, append-nil) refl in
+    f (netWith h sinks) (record { weights = weightsIn sinks; spelled = spelled; in-range = in-range h sinks w g (omega (arith, w .count)) (omega (arith, w .count)); weighed = weighed h sinks g; near = numbered-near N v; short = short }, refl) u₇
   where
     ended-then : {A B C : Type 0} (l : ℕ) (a : A) (s : List ℕ) (g : A → B) (o : Outcome B) → andThen (ended InNet l a s) (λ a. value (g a)) ≡ o → (o ≡ refused (BytesFollow InNet l) → C) → (s ≡ [] → value (g a) ≡ o → C) → C
     ended-then l a [] g o e bad f = f refl e
     ended-then l a (c ∷ s) g o e bad f = bad (sym e)
 
 -- "length first"
-length-cases : {C : Type 0} (s : List ℕ) (o : Outcome Net) → readNet s ≡ o → (o ≡ refused (TooLong InNet) → C) → (length s ≤ netLengthLimit → readNetLines s ≡ o → C) → C
-unfolding readNet
+length-cases : {C : Type 0} (s : List ℕ) (o : Outcome WeightedNet) → readWeighted s ≡ o → (o ≡ refused (TooLong InNet) → C) → (length s ≤ netLengthLimit → readNetLines s ≡ o → C) → C
+unfolding readWeighted
 length-cases {C = C} s o e bad f = go (ltb netLengthLimit (length s)) refl e
   where
     go : (t : Bool) → ltb netLengthLimit (length s) ≡ t → elim t [ true ↦ refused (TooLong InNet) | false ↦ readNetLines s ] ≡ o → C
     go true q w = bad (sym w)
     go false q w = f (ltb-false netLengthLimit (length s) q) w
 
-pub net-sound : (s : List ℕ) (N : Net) → readNet s ≡ value N → InFormat s N
-net-sound s N e =
+weighted-sound : (s : List ℕ) (N : WeightedNet) → readWeighted s ≡ value N → WeightedFormat s N
+weighted-sound s N e =
     length-cases s (value N) e (never N (TooLong InNet)) λ short w.
     net-cases s short (value N) w (λ l d p q b u. never N d u) (λ l p q u. never N (BytesFollow InNet l) u) (λ l p u. never N (FarPin l) u) λ M h u.
     let same : M ≡ N = cc in
-    subst (InFormat s) same h
+    subst (WeightedFormat s) same h
+
+pub net-sound : (s : List ℕ) (N : Net) → readNet s ≡ value N → InFormat s N
+unfolding readNet
+net-sound s N e = go (readWeighted s) refl e
+  where
+    go : (o : Outcome WeightedNet) → readWeighted s ≡ o → andThen o (λ M. value (M .net)) ≡ value N → InFormat s N
+    go (refused d) q u = never N d (sym u)
+    go (value M) q u = let same : M .net ≡ N = cc in subst (InFormat s) same (weighted-sound s M q .0)
 
 -- the first five lines of a net in range, with a count in range, are read; then its sinks
-lines-read : (N : Net) (n : ℕ) (r : List ℕ) → InRange N → (1 ≤ n) × (n ≤ sinkLimit) → readNetLines (netLines n N ++ r) ≡ andThen (readRest (N .root) n (sinksText (N .sinks) ++ r)) (λ sinks. value (netWith (headWith n N) sinks))
-lines-read N n r h p = ap readNetLines (lines-then n N r) ∙ then-value _ (head-complete (headWith n N) (sinksText (N .sinks) ++ r) (head-in n N h p))
+lines-read : (N : Net) (w : List ℕ) (n : ℕ) (r : List ℕ) → InRange N → (1 ≤ n) × (n ≤ sinkLimit) → readNetLines (netLines n N w ++ r) ≡ andThen (readRest (N .root) n (sinksText (weighted (N .sinks) w) ++ r)) (λ sinks. value (netWith (headWith n N) sinks))
+lines-read N w n r h p = ap readNetLines (lines-then n N w r) ∙ then-value _ (head-complete (headWith n N) (sinksText (weighted (N .sinks) w) ++ r) (head-in n N h p))
+
+-- the lines of sinks in range, of weights in range
+pub lines-in : (N : Net) (w : List ℕ) → InRange N → WeightsInRange (size N) w → All LineIn (weighted (N .sinks) w)
+lines-in N w h v = all-weighted SinkIn WeightIn (N .sinks) w (v .size) (sinks-in N h) (weights-all (size N) w v)
+
+pub weighted-complete : (s : List ℕ) (N : Net) (f : InFormat s N) → readWeighted s ≡ value (record { net = N; weights = f .weights })
+unfolding readWeighted
+weighted-complete s N f =
+    let w = f .weights in
+    let e : length w ≡ size N = f .weighed .size in
+    let l = weighted (N .sinks) w in
+    let parts : sinksOf l ≡ N .sinks = weighted-sinks (N .sinks) w e in
+    let read : readSinks (N .root) (size N) 6 (sinksText l ++ []) ≡ value (record { got = l; rest = [] })
+    = ap (λ (k : ℕ). readSinks (N .root) k 6 (sinksText l ++ [])) (sym (weighted-length (N .sinks) w e))
+    ∙ sinks-complete (N .root) l 6 [] (lines-in N w (f .in-range) (f .weighed)) (subst (All (Near (N .root))) (sym parts) (sinks-near N (f .near))) in
+    rw (readWeighted, le-ltb netLengthLimit (length s) (f .short))
+    (ap readNetLines (f .spelled ∙ sym (append-nil (netText N w)))
+    ∙ lines-read N w (size N) [] (f .in-range) (f .in-range .sinks)
+    ∙ ap (λ o. andThen (andThen o (λ sinks. ended InNet (size N + 6) (sinks .got) (sinks .rest))) (λ sinks. value (netWith (headWith (size N) N) sinks))) read
+    ∙ (λ i. value (record { net = record { root = N .root; branch = N .branch; wire = N .wire; need = N .need; sinks = parts i }; weights = weighted-weights (N .sinks) w e i })))
 
 pub net-complete : (s : List ℕ) (N : Net) → InFormat s N → readNet s ≡ value N
 unfolding readNet
-net-complete s N f =
-    rw (readNet, le-ltb netLengthLimit (length s) (f .short))
-    (ap readNetLines (f .spelled ∙ sym (append-nil (netText N)))
-    ∙ lines-read N (size N) [] (f .in-range) (f .in-range .sinks)
-    ∙ ap (λ o. andThen (andThen o (λ sinks. ended InNet (size N + 6) (sinks .got) (sinks .rest))) (λ sinks. value (netWith (headWith (size N) N) sinks))) (sinks-complete (N .root) (N .sinks) 6 [] (sinks-in N (f .in-range)) (sinks-near N (f .near))))
+net-complete s N f = then-value (λ M. value (M .net)) (weighted-complete s N f)
+
+-- a refusal is told by both readings
+pub both-refuse : (s : List ℕ) (e : Refusal) → readWeighted s ≡ refused e → readNet s ≡ refused e
+unfolding readNet
+both-refuse s e h = then-refused (λ M. value (M .net)) h
+
+pub refused-both : (s : List ℕ) (e : Refusal) → readNet s ≡ refused e → readWeighted s ≡ refused e
+unfolding readNet
+refused-both s e h = go (readWeighted s) refl h
+  where
+    go : (o : Outcome WeightedNet) → readWeighted s ≡ o → andThen o (λ M. value (M .net)) ≡ refused e → readWeighted s ≡ refused e
+    go (value M) q u = never (M .net) e u
+    go (refused d) q u = let v : d ≡ e = cc in q ∙ ap (λ e. refused e) v
 
 pub net-one : (s : List ℕ) (N M : Net) → InFormat s N → InFormat s M → N ≡ M
 net-one s N M f g =
     let a : readNet s ≡ value N = net-complete s N f in
     let b : readNet s ≡ value M = net-complete s M g in
     cc
+
+pub weights-one : (s : List ℕ) (N : Net) (f g : InFormat s N) → f .weights ≡ g .weights
+weights-one s N f g =
+    let M : WeightedNet = record { net = N; weights = f .weights } in
+    let K : WeightedNet = record { net = N; weights = g .weights } in
+    let e : M ≡ K = value-one M K (sym (weighted-complete s N f) ∙ weighted-complete s N g) in
+    ap (λ M. M .weights) e
+  where
+    value-one : (M K : WeightedNet) → _≡_ {A = Outcome WeightedNet} (value M) (value K) → M ≡ K
+    value-one M K e = cc
 
 -- ---- refusals
 
@@ -244,7 +307,7 @@ pub data NetRefusal : Refusal → Type 0 where
   bytes-follow : {l : ℕ} → 7 ≤ l → l ≤ 6 + sinkLimit → NetRefusal (BytesFollow InNet l)
   pin-far : {l : ℕ} → 6 ≤ l → l ≤ 5 + sinkLimit → NetRefusal (FarPin l)
 
-line-refusal : (e d : Refusal) (k : ℕ) → 1 ≤ k → k ≤ 5 + sinkLimit → LineRefusal InNet k d → _≡_ {A = Outcome Net} (refused e) (refused d) → NetRefusal e
+line-refusal : (e d : Refusal) (k : ℕ) → 1 ≤ k → k ≤ 5 + sinkLimit → LineRefusal InNet k d → _≡_ {A = Outcome WeightedNet} (refused e) (refused d) → NetRefusal e
 line-refusal e d k p q (inl b) u = let v : e ≡ NotDue InNet k = cc in rw v (not-due p q)
 line-refusal e d k p q (inr b) u = let v : e ≡ OutOfRange InNet k = cc in rw v (out-of-range p q)
 
@@ -253,7 +316,7 @@ far-refusal s l f = pin-far {l = l} (omega (arith, f .line-is, f .in-range .sink
 
 pub net-refused : (s : List ℕ) (e : Refusal) → readNet s ≡ refused e → NetRefusal e
 net-refused s e h =
-    length-cases s (refused e) h (λ u. let v : e ≡ TooLong InNet = cc in rw v too-long) λ short w.
+    length-cases s (refused e) (refused-both s e h) (λ u. let v : e ≡ TooLong InNet = cc in rw v too-long) λ short w.
     net-cases s short (refused e) w
     (λ k d p q b u. line-refusal e d k p q b u)
     (λ k p q u. let v : e ≡ BytesFollow InNet k = cc in rw v (bytes-follow p q))
@@ -264,28 +327,30 @@ net-refused s e h =
 
 pub far-sound : (s : List ℕ) (l : ℕ) → readNet s ≡ refused (FarPin l) → FarPinAt s l
 far-sound s l h =
-    length-cases s (refused (FarPin l)) h (λ u. other (TooLong InNet) u (omega arith)) λ short w.
+    length-cases s (refused (FarPin l)) (refused-both s (FarPin l) h) (λ u. other (TooLong InNet) u (omega arith)) λ short w.
     net-cases s short (refused (FarPin l)) w
     (λ k d p q b u. by-line k d b u)
     (λ k p q u. other (BytesFollow InNet k) u (omega arith))
     (λ k p u. let v : k ≡ l = cc in subst (FarPinAt s) v p)
     λ N f u. never N (FarPin l) u
   where
-    other : {C : Type 0} (e : Refusal) → _≡_ {A = Outcome Net} (refused (FarPin l)) (refused e) → told e .number < 13 → C
+    other : {C : Type 0} (e : Refusal) → _≡_ {A = Outcome WeightedNet} (refused (FarPin l)) (refused e) → told e .number < 13 → C
     other e u n = let v : FarPin l ≡ e = cc in absurd (omega (arith, ap (λ e. told e .number) v, n))
 
-    by-line : {C : Type 0} (k : ℕ) (d : Refusal) → LineRefusal InNet k d → _≡_ {A = Outcome Net} (refused (FarPin l)) (refused d) → C
+    by-line : {C : Type 0} (k : ℕ) (d : Refusal) → LineRefusal InNet k d → _≡_ {A = Outcome WeightedNet} (refused (FarPin l)) (refused d) → C
     by-line k d (inl b) u = other d u (rw b (omega arith))
     by-line k d (inr b) u = other d u (rw b (omega arith))
 
 -- a net in range whose first sink too far off is at place i, with any count that has room for it, and whatever follows its lines
-far-read : (s : List ℕ) (N : Net) (n i : ℕ) (r : List ℕ) → length s ≤ netLengthLimit → s ≡ netLines n N ++ r → InRange N → n ≤ sinkLimit → i < n → FarAt (N .root) (N .sinks) i → readNet s ≡ refused (FarPin (6 + i))
-unfolding readNet
-far-read s N n i r short spelled h few p w =
-    rw (readNet, le-ltb netLengthLimit (length s) short)
+far-read : (s : List ℕ) (N : Net) (ws : List ℕ) (n i : ℕ) (r : List ℕ) → length s ≤ netLengthLimit → s ≡ netLines n N ws ++ r → InRange N → WeightsInRange (size N) ws → n ≤ sinkLimit → i < n → FarAt (N .root) (N .sinks) i → readNet s ≡ refused (FarPin (6 + i))
+unfolding readWeighted
+far-read s N ws n i r short spelled h v few p w =
+    let far : FarAt (N .root) (sinksOf (weighted (N .sinks) ws)) i = subst (λ l. FarAt (N .root) l i) (sym (weighted-sinks (N .sinks) ws (v .size))) w in
+    both-refuse s (FarPin (6 + i))
+    (rw (readWeighted, le-ltb netLengthLimit (length s) short)
     (ap readNetLines spelled
-    ∙ lines-read N n r h (omega arith, few)
-    ∙ ap (λ o. andThen (andThen o (λ sinks. ended InNet (n + 6) (sinks .got) (sinks .rest))) (λ sinks. value (netWith (headWith n N) sinks))) (sinks-far (N .root) (N .sinks) i n 6 r p (sinks-in N h) w))
+    ∙ lines-read N ws n r h (omega arith, few)
+    ∙ ap (λ o. andThen (andThen o (λ sinks. ended InNet (n + 6) (sinks .got) (sinks .rest))) (λ sinks. value (netWith (headWith n N) sinks))) (sinks-far (N .root) (weighted (N .sinks) ws) i n 6 r p (lines-in N ws h v) far)))
 
 pub far-complete : (s : List ℕ) (l : ℕ) → FarPinAt s l → readNet s ≡ refused (FarPin l)
 far-complete s l f = go (size (f .net)) refl
@@ -293,12 +358,12 @@ far-complete s l f = go (size (f .net)) refl
     go : (m : ℕ) → size (f .net) ≡ m → readNet s ≡ refused (FarPin l)
     go zero e = absurd (omega (arith, f .in-range .sinks))
     go (suc i) e =
-        far-read s (f .net) (f .count) i (f .rest) (f .short) (f .spelled) (f .in-range) (f .counted .1) (omega (arith, f .counted .0)) (listed-far (f .net) i (subst (FirstFar (f .net)) e (f .first-far)))
+        far-read s (f .net) (f .weights) (f .count) i (f .rest) (f .short) (f .spelled) (f .in-range) (f .weighed) (f .counted .1) (omega (arith, f .counted .0)) (listed-far (f .net) i (subst (FirstFar (f .net)) e (f .first-far)))
         ∙ ap (λ l. refused (FarPin l)) (omega (arith, f .line-is))
 
-pub far-net : (N : Net) → InRange N → length (netText N) ≤ netLengthLimit → (v : ℕ) → FirstFar N v → FarPinAt (netText N) (v + 5)
-far-net N h short zero f = absurd (omega (arith, f .sink .0))
-far-net N h short (suc i) f =
-    far-sound (netText N) (suc i + 5)
-    (far-read (netText N) N (size N) i [] short (sym (append-nil (netText N))) h (h .sinks .1) (omega (arith, f .sink .1)) (listed-far N i f)
+pub far-net : (N : Net) (w : List ℕ) → InRange N → WeightsInRange (size N) w → length (netText N w) ≤ netLengthLimit → (v : ℕ) → FirstFar N v → FarPinAt (netText N w) (v + 5)
+far-net N w h k short zero f = absurd (omega (arith, f .sink .0))
+far-net N w h k short (suc i) f =
+    far-sound (netText N w) (suc i + 5)
+    (far-read (netText N w) N w (size N) i [] short (sym (append-nil (netText N w))) h k (h .sinks .1) (omega (arith, f .sink .1)) (listed-far N i f)
     ∙ ap (λ l. refused (FarPin l)) (omega arith))

@@ -13,7 +13,7 @@ use borrow.Author.Needs.{needs}
 use borrow.Author.Tests.{not-true, not-false}
 use Rattle.quantities.specs.Inner.Linear.{fit}
 use Rattle.quantities.specs.declared.point.Point.{Point}
-use Rattle.tree.specs.Limits.{positionLimit, requiredLimit}
+use Rattle.tree.specs.Limits.{positionLimit, requiredLimit, weightLimit}
 use Rattle.formats.specs.Reading.Rows.{lineIn}
 use Rattle.formats.specs.NetText.{sinkKey, sinkRanges}
 use Rattle.formats.specs.Inner.Ranging.{listed}
@@ -22,7 +22,7 @@ use Rattle.formats.specs.declared.scan.Numbers.{Numbers}
 use Rattle.formats.specs.declared.scan.Line.the-variants.{Spelt}
 use Rattle.formats.specs.declared.reader.Place.{Place}
 use Rattle.formats.specs.declared.refusal.Text.the-variants.{InNet}
-use Rattle.formats.proofs.Laws.Numbers.Ranges.{around-narrow}
+use Rattle.formats.proofs.Laws.Numbers.Ranges.{around-narrow, from-narrow}
 use Rattle.formats.proofs.Laws.Lines.Due.{passed, failed}
 use Rattle.formats.proofs.Laws.Lines.Taking.{wrong-line, right-line}
 use Rattle.formats.proofs.Laws.Lines.TakenLines.{Taken, taken-small, taken-next, point-within}
@@ -63,10 +63,10 @@ enum-told c = search needs
 returns : tie.Need-returns
 returns c =
     let a = c .before .before .before .before .before .args in
-    sink-wrong (a .root) (now (a .text)) (a .here) (wrong-line sinkKey 3 (now (a .text)) (a .here .at) (a .here .line) (sym (c .enum-told .given .1) ∙ c .before .before .read-line .ensures))
+    sink-wrong (a .root) (now (a .text)) (a .here) (wrong-line sinkKey 4 (now (a .text)) (a .here .at) (a .here .line) (sym (c .enum-told .given .1) ∙ c .before .before .read-line .ensures))
 
-there : (t : tie.After-known-told) → (Spelt (numbers t) (next t .at) ≡ lineAt (here t .at) (lineIn sinkKey 3 (drop (here t .at) (text t)))) × (next t .line ≡ here t .line + 1)
-there t = right-line sinkKey 3 (text t) (here t .at) (here t .line) (numbers t) (next t) (sym (t .before .numbers .given .1) ∙ t .before .before .before .read-line .ensures)
+there : (t : tie.After-known-told) → (Spelt (numbers t) (next t .at) ≡ lineAt (here t .at) (lineIn sinkKey 4 (drop (here t .at) (text t)))) × (next t .line ≡ here t .line + 1)
+there t = right-line sinkKey 4 (text t) (here t .at) (here t .line) (numbers t) (next t) (sym (t .before .numbers .given .1) ∙ t .before .before .before .read-line .ensures)
 
 sink-in-range-requires : tie.Need-sink-in-range-requires
 sink-in-range-requires c κs = search needs
@@ -77,16 +77,16 @@ returns-2 c =
     sink-out (root t) (text t) (here t) (numbers t) (next t .at) (there t .0) (failed (c .before .sink-in-range .result) sinkRanges (listed (numbers t)) (c .before .sink-in-range .ensures) (not-true _ (c .if1 .taken)))
 
 -- the line where its numbers are in range
-abbrev line : tie.After-arrival → tie.After-known-told
-line c = c .before .before .before .before .before
+abbrev line : tie.After-weight → tie.After-known-told
+line c = c .before .before .before .before .before .before
 
-taken : (c : tie.After-arrival) → Taken sinkKey sinkRanges (text (line c)) (here (line c) .at) (numbers (line c)) (next (line c) .at)
+taken : (c : tie.After-weight) → Taken sinkKey sinkRanges (text (line c)) (here (line c) .at) (numbers (line c)) (next (line c) .at)
 taken c =
-    let e = c .before .before .before in
+    let e = c .before .before .before .before in
     record {
       few = omega arith;
       spelt = there (line c) .0;
-      narrow = (around-narrow positionLimit (omega arith), (around-narrow positionLimit (omega arith), (around-narrow requiredLimit (omega arith), tt)));
+      narrow = (around-narrow positionLimit (omega arith), (around-narrow positionLimit (omega arith), (around-narrow requiredLimit (omega arith), (from-narrow weightLimit (omega arith) 1, tt))));
       passed = passed (e .before .sink-in-range .result) sinkRanges (listed (numbers (line c))) (e .before .sink-in-range .ensures) (not-false _ (e .if1 .left));
     }
 
@@ -112,7 +112,7 @@ returns-3 c =
     sink-far (root n) (text n) (here n) (numbers n) (next n .at) (taken e) _ (toZ-ofZ (fit (v .result) (v .ok)) ∙ v .ensures) (toZ-ofZ (fit (w .result) (w .ok)) ∙ w .ensures) (sym (c .if2 .taken) ∙ c .before .is-far .ensures)
 
 -- the line where its pin is near enough besides
-abbrev near : tie.After-struct-told2 → tie.After-arrival
+abbrev near : tie.After-struct-told2 → tie.After-weight
 near c = c .before .before .before .before .before .before
 
 mul-x : tie.Need-mul-x
@@ -134,11 +134,20 @@ slice-set-from-y c = search needs
 value-requires-3 : tie.Need-value-requires-3
 value-requires-3 c κs = taken-small InNet (taken (near c)) .1 .1 .0
 
-mul-t31 : tie.Need-mul-t31
-mul-t31 c = mul-x (c .before)
+mul-t33 : tie.Need-mul-t33
+mul-t33 c = mul-x (c .before)
 
 slice-set-from-required : tie.Need-slice-set-from-required
 slice-set-from-required c = search needs
+
+value-requires-4 : tie.Need-value-requires-4
+value-requires-4 c κs = taken-small InNet (taken (near (c .before))) .1 .1 .1 .0
+
+mul-t33-2 : tie.Need-mul-t33-2
+mul-t33-2 c = mul-x (c .before .before)
+
+slice-set-from-weights : tie.Need-slice-set-from-weights
+slice-set-from-weights c = search needs
 
 same-length : tie.Need-same-length
 same-length c = search needs
@@ -149,21 +158,26 @@ same-length-2 c = search needs
 same-length-3 : tie.Need-same-length-3
 same-length-3 c = search needs
 
+same-length-4 : tie.Need-same-length-4
+same-length-4 c = search needs
+
 returns-4 : tie.Need-returns-4
 returns-4 c =
-    let d = c .before in
+    let d = c .before .before in
     let e = near d in
     let n = line e in
     let p = start n in
     let v = d .before .before .before .before .before .value in
     let w = d .before .before .before .before .value2 in
-    let u = c .value3 in
+    let u = c .before .value3 in
+    let o = c .value4 in
     let x = toZ-ofZ (fit (v .result) (v .ok)) in
     let y = toZ-ofZ (fit (w .result) (w .ok)) in
     record {
       x = _;
       y = _;
       a = _;
+      w = _;
       read-to = record {
         reads = sink-near (root n) (text n) (here n) (numbers n) (next n .at) (taken e) _ (x ∙ v .ensures) (y ∙ w .ensures) (sym (d .before .before .if2 .left) ∙ d .before .before .before .is-far .ensures);
         within = taken-next InNet (taken e) (p .pre .0) .1;
@@ -172,6 +186,7 @@ returns-4 c =
       xs-is = ap (set (now (p .args .xs)) (p .args .s)) (ap (λ (z : ℤ). toZ w64 (ofZ w64 z)) x ∙ x ∙ v .ensures);
       ys-is = ap (set (now (p .args .ys)) (p .args .s)) (ap (λ (z : ℤ). toZ w64 (ofZ w64 z)) y ∙ y ∙ w .ensures);
       required-is = ap (set (now (p .args .required)) (p .args .s)) (toZ-ofZ (fit (u .result) (u .ok)) ∙ u .ensures);
+      weights-is = ap (set (now (p .args .weights)) (p .args .s)) (toZ-ofZ (fit (o .result) (o .ok)) ∙ o .ensures);
     }
 
 pub read-sink-spec : {M : Type 1} → statement M
@@ -194,9 +209,13 @@ read-sink-spec =
     mul-y
     slice-set-from-y
     value-requires-3
-    mul-t31
+    mul-t33
     slice-set-from-required
+    value-requires-4
+    mul-t33-2
+    slice-set-from-weights
     same-length
     same-length-2
     same-length-3
+    same-length-4
     returns-4)
