@@ -64,7 +64,7 @@ fn plan_net(
     emit(out, slack, wire, n, parents, xs, ys)
 }
 
-// The plan of a net whose head was read, in arrays with places for its n sinks.
+// The plan of a net whose head was read, in arrays with places for its n sinks. The weights, which it ignores, are read into `own`.
 fn plan_rest(
     net: &[u8],
     header: Header,
@@ -83,11 +83,11 @@ fn plan_rest(
     out: &mut [u8],
 ) -> PlanAnswer
     requires head { ⌜ HeadHeld sinkLimit (now net) header root n next ⌝ }
-    requires room { ⌜ HasPlace n (now xs) (now ys) (now required) × HasVertices n (now parents) (now xs) (now ys) × HasPlanRoom n (now own) (now slacks) (now room) (now levels) (now below) ⌝ }
+    requires room { ⌜ HasPlace n (now xs) (now ys) (now required) (now own) × HasVertices n (now parents) (now xs) (now ys) × HasPlanRoom n (now own) (now slacks) (now room) (now levels) (now below) ⌝ }
     ensures answer { λ r. ⌜ r ≡ planAnswer (planOf (now (net .entry)) (length (now (out .entry)))) ⌝ }
     ensures output { λ r. ⌜ now (out .exit) ≡ planOutput (now (net .entry)) (now (out .entry)) ⌝ }
 {
-    if let NetRead::NetRefused { refusal } = read_rest(net, root, n, next, xs, ys, required) {
+    if let NetRead::NetRefused { refusal } = read_rest(net, root, n, next, xs, ys, required, own) {
         return PlanAnswer::PlanRefused { refusal };
     }
     plan_net(

@@ -22,10 +22,10 @@ smallNet = record {
 }
 
 abbrev pub smallText : List ℕ
-smallText = bytes "root=-3,2\nbranch=20\nwire=2,6\nneed=-30\nsinks=4\nsink=7,2,40\nsink=1,8,64\nsink=7,8,110\nsink=5,-4,97\n"
+smallText = bytes "root=-3,2\nbranch=20\nwire=2,6\nneed=-30\nsinks=4\nsink=7,2,40,1\nsink=1,8,64,1\nsink=7,8,110,1\nsink=5,-4,97,1\n"
 
 abbrev pub largeText : List ℕ
-largeText = bytes "root=-3000,2000\nbranch=20000\nwire=2,6\nneed=-30000\nsinks=4\nsink=7000,2000,40000\nsink=1000,8000,64000\nsink=7000,8000,110000\nsink=5000,-4000,97000\n"
+largeText = bytes "root=-3000,2000\nbranch=20000\nwire=2,6\nneed=-30000\nsinks=4\nsink=7000,2000,40000,1\nsink=1000,8000,64000,1\nsink=7000,8000,110000,1\nsink=5000,-4000,97000,1\n"
 
 abbrev pub smallListing : List ℕ
 smallListing = bytes "slack=-20\nwire=28\nsinks=4\nleaf=1,6\nleaf=2,7\nleaf=3,7\nleaf=4,6\nnode=5,0,1,2\nnode=6,5,5,2\nnode=7,5,1,8\n"

@@ -61,7 +61,7 @@ fn judge_listing(
     }
 }
 
-// The judgement of a listing over a net whose head was read, in arrays with places for its n sinks.
+// The judgement of a listing over a net whose head was read, in arrays with places for its n sinks. The weights, which it ignores, are read into `own`.
 fn judge_rest(
     net: &[u8],
     header: Header,
@@ -80,10 +80,10 @@ fn judge_rest(
     listing: &[u8],
 ) -> JudgeAnswer
     requires head { ⌜ HeadHeld sinkLimit (now net) header root n next ⌝ }
-    requires room { ⌜ HasPlace n (now xs) (now ys) (now required) × HasVertices n (now parents) (now xs) (now ys) × HasRoom n (now first) (now second) (now queue) (now slacks) × (n < length (now own)) ⌝ }
+    requires room { ⌜ HasPlace n (now xs) (now ys) (now required) (now own) × HasVertices n (now parents) (now xs) (now ys) × HasRoom n (now first) (now second) (now queue) (now slacks) × (n < length (now own)) ⌝ }
     ensures { λ r. ⌜ r ≡ judgeAnswer (judgeOf (now (net .entry)) (now (listing .entry))) ⌝ }
 {
-    if let NetRead::NetRefused { refusal } = read_rest(net, root, n, next, xs, ys, required) {
+    if let NetRead::NetRefused { refusal } = read_rest(net, root, n, next, xs, ys, required, own) {
         return JudgeAnswer::JudgeRefused { refusal };
     }
     judge_listing(

@@ -9,4 +9,5 @@ pub mod Demands
 pub mod TreePlans
 pub mod FarPins
 pub mod TwoFactors
+pub mod Weightless
 pub mod Marked

@@ -3,7 +3,7 @@ use Prim.Native.Nat.{ℕ, _+_, _≤_}
 use mathlib.Core.Path.{_≡_}
 use mathlib.Core.List.{List}
 use Rattle.tree.specs.Net.{Net, size}
-use Rattle.tree.specs.Limits.{InRange}
+use Rattle.tree.specs.Limits.{InRange, WeightsInRange}
 use Rattle.formats.specs.Limits.{pinLimit}
 use Rattle.formats.specs.Outcome.{refused}
 use Rattle.formats.specs.NetText.{netText, pinDistance, InFormat}
@@ -19,6 +19,6 @@ pub record FarPins : Type 0 where
   pub plan-only : (net : List ℕ) (room l : ℕ) → planOf net room ≡ refused (FarPin l) → FarPinAt net l
   pub judge-only : (net listing : List ℕ) (l : ℕ) → judgeOf net listing ≡ refused (FarPin l) → FarPinAt net l
   -- "Nets with such pins no longer count as nets in the format": the text of a net in range is in the format, or tells of its first such pin
-  pub near-inside : (N : Net) → InRange N → ((v : ℕ) → 1 ≤ v → v ≤ size N → pinDistance N v ≤ pinLimit) → InFormat (netText N) N
-  pub far-told : (N : Net) → InRange N → (v : ℕ) → FirstFar N v → FarPinAt (netText N) (v + 5)
+  pub near-inside : (N : Net) (w : List ℕ) → InRange N → WeightsInRange (size N) w → ((v : ℕ) → 1 ≤ v → v ≤ size N → pinDistance N v ≤ pinLimit) → InFormat (netText N w) N
+  pub far-told : (N : Net) (w : List ℕ) → InRange N → WeightsInRange (size N) w → (v : ℕ) → FirstFar N v → FarPinAt (netText N w) (v + 5)
   pub far-outside : (net : List ℕ) (l : ℕ) → FarPinAt net l → (N : Net) → InFormat net N → ⊥

@@ -6,6 +6,7 @@ pub mod Demands
 pub mod TreePlans
 pub mod FarPins
 pub mod TwoFactors
+pub mod Weightless
 pub mod Marked
 -- What serves the contracts of inner functions. Nothing of it need be believed.
 pub mod Inner

@@ -1,4 +1,4 @@
--- The marked nets and lines of document 01, by 02's request 4 "restated with h = v", and those of its requests 1, 2, 4 and 5, as one statement: what is said of texts here, the rest in the tree's own.
+-- The marked nets and lines of document 01, by 02's request 4 "restated with h = v", with the weight 1 of its request 7, and those of its requests 1, 2, 4, 5 and 7, as one statement: what is said of texts here, the rest in the tree's own.
 use Prim.Native.Nat.{ℕ, _≤_}
 use mathlib.Core.Path.{_≡_}
 use mathlib.Core.List.{List, [], _∷_, _++_}
@@ -19,10 +19,10 @@ use Rattle.operations.specs.Answers.{planOf, planListing, judgeOf}
 
 -- A, and A with `need=1`
 abbrev pub textA : List ℕ
-textA = bytes "root=0,0\nbranch=20\nwire=2,2\nneed=0\nsinks=3\nsink=10,0,100\nsink=4,6,60\nsink=10,10,70\n"
+textA = bytes "root=0,0\nbranch=20\nwire=2,2\nneed=0\nsinks=3\nsink=10,0,100,1\nsink=4,6,60,1\nsink=10,10,70,1\n"
 
 abbrev pub textA1 : List ℕ
-textA1 = bytes "root=0,0\nbranch=20\nwire=2,2\nneed=1\nsinks=3\nsink=10,0,100\nsink=4,6,60\nsink=10,10,70\n"
+textA1 = bytes "root=0,0\nbranch=20\nwire=2,2\nneed=1\nsinks=3\nsink=10,0,100,1\nsink=4,6,60,1\nsink=10,10,70,1\n"
 
 -- "prints exactly, a line each"
 abbrev pub listingA : List ℕ
@@ -34,44 +34,51 @@ statedA slack wire = bytes "slack=" ++ (bytes slack ++ (bytes "\nwire=" ++ (byte
 
 -- "Three sinks at the root 0,0 with a = 0, c = 20, d = 2, t = -40"
 abbrev pub textThree : List ℕ
-textThree = bytes "root=0,0\nbranch=20\nwire=2,2\nneed=-40\nsinks=3\nsink=0,0,0\nsink=0,0,0\nsink=0,0,0\n"
+textThree = bytes "root=0,0\nbranch=20\nwire=2,2\nneed=-40\nsinks=3\nsink=0,0,0,1\nsink=0,0,0,1\nsink=0,0,0,1\n"
 
 abbrev pub listingThree : List ℕ
 listingThree = bytes "slack=-40\nwire=0\nsinks=3\nleaf=1,5\nleaf=2,4\nleaf=3,5\nnode=4,0,0,0\nnode=5,4,0,0\n"
 
 -- 02, request 1: the edge above a branch point is the nearest, and the nearer of two sinks
 abbrev pub textRootNearest : List ℕ
-textRootNearest = bytes "root=0,0\nbranch=20\nwire=2,2\nneed=-40\nsinks=3\nsink=10,0,20\nsink=10,0,20\nsink=1,0,2\n"
+textRootNearest = bytes "root=0,0\nbranch=20\nwire=2,2\nneed=-40\nsinks=3\nsink=10,0,20,1\nsink=10,0,20,1\nsink=1,0,2,1\n"
 
 abbrev pub listingRootNearest : List ℕ
 listingRootNearest = bytes "slack=-40\nwire=10\nsinks=3\nleaf=1,4\nleaf=2,4\nleaf=3,5\nnode=4,5,10,0\nnode=5,0,1,0\n"
 
 abbrev pub textNearerSink : List ℕ
-textNearerSink = bytes "root=0,0\nbranch=20\nwire=2,2\nneed=-40\nsinks=3\nsink=10,0,20\nsink=0,10,20\nsink=1,10,22\n"
+textNearerSink = bytes "root=0,0\nbranch=20\nwire=2,2\nneed=-40\nsinks=3\nsink=10,0,20,1\nsink=0,10,20,1\nsink=1,10,22,1\n"
 
 abbrev pub listingNearerSink : List ℕ
 listingNearerSink = bytes "slack=-40\nwire=21\nsinks=3\nleaf=1,4\nleaf=2,5\nleaf=3,5\nnode=4,0,0,0\nnode=5,4,0,10\n"
 
 -- 02, request 2: a net of one sink, by how its root and the sink's position are spelt, and the net that it is where both are in range
 abbrev pub pinText : String → String → List ℕ
-pinText root pin = bytes "root=" ++ (bytes root ++ (bytes "\nbranch=20\nwire=2,2\nneed=-2000000000000000\nsinks=1\nsink=" ++ (bytes pin ++ bytes ",100\n")))
+pinText root pin = bytes "root=" ++ (bytes root ++ (bytes "\nbranch=20\nwire=2,2\nneed=-2000000000000000\nsinks=1\nsink=" ++ (bytes pin ++ bytes ",100,1\n")))
 
 abbrev pub pinNet : Point → Point → Net
 pinNet root pin = record { root = root; branch = 20; wire = tree.metals 2 2; need = negℤ (pos needLimit); sinks = record { point = pin; required = pos 100 } ∷ [] }
 
 -- 02, request 4: the pins of A with other arrivals, by how the two factors are spelt, and the listing of its plan with h = 2 and v = 6
 abbrev pub metalsText : String → List ℕ
-metalsText factors = bytes "root=0,0\nbranch=20\nwire=" ++ (bytes factors ++ bytes "\nneed=0\nsinks=3\nsink=10,0,100\nsink=4,6,110\nsink=10,10,150\n")
+metalsText factors = bytes "root=0,0\nbranch=20\nwire=" ++ (bytes factors ++ bytes "\nneed=0\nsinks=3\nsink=10,0,100,1\nsink=4,6,110,1\nsink=10,10,150,1\n")
 
 abbrev pub listingMetals : List ℕ
 listingMetals = bytes "slack=30\nwire=26\nsinks=3\nleaf=1,5\nleaf=2,4\nleaf=3,5\nnode=4,0,4,0\nnode=5,4,10,0\n"
 
 -- 02, request 5: a net of one sink at the root, by how its c, t and a are spelt, and the net that it is where they are in range
 abbrev pub rangeText : String → String → String → List ℕ
-rangeText branch need required = bytes "root=0,0\nbranch=" ++ (bytes branch ++ (bytes "\nwire=2,2\nneed=" ++ (bytes need ++ (bytes "\nsinks=1\nsink=0,0," ++ (bytes required ++ bytes "\n")))))
+rangeText branch need required = bytes "root=0,0\nbranch=" ++ (bytes branch ++ (bytes "\nwire=2,2\nneed=" ++ (bytes need ++ (bytes "\nsinks=1\nsink=0,0," ++ (bytes required ++ bytes ",1\n")))))
 
 abbrev pub rangeNet : ℕ → ℤ → ℤ → Net
 rangeNet branch need required = record { root = tree.point (pos 0) (pos 0); branch = branch; wire = tree.metals 2 2; need = need; sinks = tree.sink (pos 0) (pos 0) required ∷ [] }
+
+-- 02, request 7: a net of one sink at X,0, by how what stands after its a is spelt, and A where sink 2 has no weight
+abbrev pub weightText : String → String → List ℕ
+weightText x weight = bytes "root=0,0\nbranch=20\nwire=2,2\nneed=0\nsinks=1\nsink=" ++ (bytes x ++ (bytes ",0,0" ++ (bytes weight ++ bytes "\n")))
+
+abbrev pub textUnweighted : List ℕ
+textUnweighted = bytes "root=0,0\nbranch=20\nwire=2,2\nneed=0\nsinks=3\nsink=10,0,100,1\nsink=4,6,60\nsink=10,10,70,1\n"
 
 -- a net that is refused so by plan and by judge, whatever the output or the listing is
 pub record TurnedAway (net : List ℕ) (e : Refusal) : Type 0 where
@@ -103,9 +110,9 @@ pub record Marked : Type 0 where
   pub four-children : judgeOf textA (bytes "slack=0\nwire=32\nsinks=3\nleaf=1,4\nleaf=2,4\nleaf=3,4\nnode=4,0,4,0\nnode=5,4,4,0\n") ≡ refused (WrongChildren 7)
   -- "Empty net: 2,1,1. `branch=0`: 3,1,2. `need=-0`: 2,1,4. .. `sinks=513`: 3,1,5."
   pub empty-net : TurnedAway [] (NotDue InNet 1)
-  pub branch-0 : TurnedAway (bytes "root=0,0\nbranch=0\nwire=2,2\nneed=0\nsinks=3\nsink=10,0,100\nsink=4,6,60\nsink=10,10,70\n") (OutOfRange InNet 2)
-  pub need-minus-0 : TurnedAway (bytes "root=0,0\nbranch=20\nwire=2,2\nneed=-0\nsinks=3\nsink=10,0,100\nsink=4,6,60\nsink=10,10,70\n") (NotDue InNet 4)
-  pub sinks-513 : TurnedAway (bytes "root=0,0\nbranch=20\nwire=2,2\nneed=0\nsinks=513\nsink=10,0,100\nsink=4,6,60\nsink=10,10,70\n") (OutOfRange InNet 5)
+  pub branch-0 : TurnedAway (bytes "root=0,0\nbranch=0\nwire=2,2\nneed=0\nsinks=3\nsink=10,0,100,1\nsink=4,6,60,1\nsink=10,10,70,1\n") (OutOfRange InNet 2)
+  pub need-minus-0 : TurnedAway (bytes "root=0,0\nbranch=20\nwire=2,2\nneed=-0\nsinks=3\nsink=10,0,100,1\nsink=4,6,60,1\nsink=10,10,70,1\n") (NotDue InNet 4)
+  pub sinks-513 : TurnedAway (bytes "root=0,0\nbranch=20\nwire=2,2\nneed=0\nsinks=513\nsink=10,0,100,1\nsink=4,6,60,1\nsink=10,10,70,1\n") (OutOfRange InNet 5)
   -- the two nets of request 1, their whole listings, and that judge reads them back
   pub root-format : InFormat textRootNearest tree.rootNearest
   pub root-listing : planListing tree.rootNearest ≡ listingRootNearest
@@ -162,3 +169,15 @@ pub record Marked : Type 0 where
   pub vertical-0 : TurnedAway (metalsText "2,0") (OutOfRange InNet 3)
   pub horizontal-10001 : TurnedAway (metalsText "10001,6") (OutOfRange InNet 3)
   pub vertical-10001 : TurnedAway (metalsText "2,10001") (OutOfRange InNet 3)
+  -- 02, request 7: "its weight, 1 to 1,000": else 3,1,6, and before 13
+  pub weight-least : InFormat (weightText "0" ",1") (rangeNet 20 (pos 0) (pos 0))
+  pub weight-most : InFormat (weightText "0" ",1000") (rangeNet 20 (pos 0) (pos 0))
+  pub weight-0 : TurnedAway (weightText "0" ",0") (OutOfRange InNet 6)
+  pub weight-1001 : TurnedAway (weightText "0" ",1001") (OutOfRange InNet 6)
+  pub weight-before-far : TurnedAway (weightText "40000001" ",1001") (OutOfRange InNet 6)
+  pub far-weighted : TurnedAway (weightText "40000001" ",1000") (FarPin 6)
+  -- "lines without it are misspelt under 2", and so are lines of five numbers
+  pub weight-missing : TurnedAway (weightText "0" "") (NotDue InNet 6)
+  pub weight-empty : TurnedAway (weightText "0" ",") (NotDue InNet 6)
+  pub two-weights : TurnedAway (weightText "0" ",1,1") (NotDue InNet 6)
+  pub second-unweighted : TurnedAway textUnweighted (NotDue InNet 7)

@@ -19,14 +19,14 @@ shortA = bytes "slack=-10\nwire=26\nsinks=3\nleaf=1,5\nleaf=2,4\nleaf=3,5\nnode=
 
 -- sink 3 is nearest; 1 and 2 add 4 each on the way to it, so 1 goes in, and then 2 meets the edge to 1
 abbrev pub textTied : List ℕ
-textTied = bytes "root=0,0\nbranch=20\nwire=2,3\nneed=0\nsinks=3\nsink=3,4,60\nsink=2,4,60\nsink=5,0,60\n"
+textTied = bytes "root=0,0\nbranch=20\nwire=2,3\nneed=0\nsinks=3\nsink=3,4,60,1\nsink=2,4,60,1\nsink=5,0,60,1\n"
 
 abbrev pub shortTied : List ℕ
 shortTied = bytes "slack=0\nwire=10\nsinks=3\nleaf=1,5\nleaf=2,5\nleaf=3,4\nnode=4,0,3,0\nnode=5,4,3,4\n"
 
 -- 1 goes first, and 3 would add 7 at its edge; 2 adds 2 there, and leaves to the edge to 1 so little that 3 adds 9 at the edge above branch point 4, less than anywhere
 abbrev pub textBranchEdge : List ℕ
-textBranchEdge = bytes "root=0,0\nbranch=20\nwire=2,2\nneed=0\nsinks=3\nsink=10,2,100\nsink=10,-2,100\nsink=5,9,100\n"
+textBranchEdge = bytes "root=0,0\nbranch=20\nwire=2,2\nneed=0\nsinks=3\nsink=10,2,100,1\nsink=10,-2,100,1\nsink=5,9,100,1\n"
 
 abbrev pub shortBranchEdge : List ℕ
 shortBranchEdge = bytes "slack=36\nwire=23\nsinks=3\nleaf=1,4\nleaf=2,4\nleaf=3,5\nnode=4,5,10,0\nnode=5,0,5,0\n"

@@ -18,7 +18,7 @@ use quantities::point::Point;
 use tree::header::Header;
 use tree::limits::SINK_LIMIT;
 
-// The plan of a net whose head was read, in arrays with places for its n sinks. The lent arrays but for `out` are room to work in.
+// The plan of a net whose head was read, in arrays with places for its n sinks. The lent arrays but for `out` are room to work in; the weights, which it ignores, are read into `slacks`.
 fn plan_rest(
     net: &[u8],
     header: Header,
@@ -37,11 +37,20 @@ fn plan_rest(
     out: &mut [u8],
 ) -> PlanAnswer
     requires head { ⌜ HeadHeld sinkLimit (now net) header root n next ⌝ }
-    requires room { ⌜ HasPlace n (now xs) (now ys) (now required) × PlanRoom n (now xs) (now ys) (now parents) (now kept) (now costs) (now second) (now queue) (now slacks) ⌝ }
+    requires room { ⌜ HasPlace n (now xs) (now ys) (now required) (now slacks) × PlanRoom n (now xs) (now ys) (now parents) (now kept) (now costs) (now second) (now queue) (now slacks) ⌝ }
     ensures answer { λ r. ⌜ r ≡ planAnswer (shortOf (now (net .entry)) (length (now (out .entry)))) ⌝ }
     ensures output { λ r. ⌜ now (out .exit) ≡ shortOutput (now (net .entry)) (now (out .entry)) ⌝ }
 {
-    if let NetRead::NetRefused { refusal } = read_rest(net, root, n, next, xs, ys, required) {
+    if let NetRead::NetRefused { refusal } = read_rest(
+        net,
+        root,
+        n,
+        next,
+        xs,
+        ys,
+        required,
+        slacks,
+    ) {
         return PlanAnswer::PlanRefused { refusal };
     }
     let tally = make(

@@ -26,7 +26,7 @@ use Rattle.formats.proofs.Laws.Faults.NetFaults.{net-answered}
 use Rattle.formats.proofs.Laws.Listings.OneText.{listing-prefix}
 use Rattle.formats.proofs.Laws.Nets.NetTexts.{net-sound}
 use Rattle.operations.specs.Answers.{Written, stated, planned, planListing, planNet, planOf, Judgement, judgeOf}
-use Rattle.operations.specs.TreePlans.{treeListing, treePlanOf, TreePlanRefuses}
+use Rattle.operations.specs.TreePlans.{Make, treeListing, treePlanOf, TreePlanRefuses}
 use Rattle.operations.proofs.Laws.Answers.{plan-refused, Ends, unreachable, short, written, ends}
 use Rattle.operations.proofs.Laws.PlanListing.{plan-in-range}
 use Rattle.operations.proofs.Laws.TreePlans.{Makes, made-in-range, tree-plan}
@@ -94,7 +94,7 @@ plan-text net room = go (readNet net) refl
     go (value N) h = net-planned N (net-sound net N h .in-range) (then-value _ h) (ends N room)
 
 -- and a plan that ignores need
-tree-text : (make : Net → Tree) → Makes make → (net : List ℕ) (room : ℕ) → PlanText (planPrinted (treePlanOf make net room))
+tree-text : (make : Make) → Makes make → (net : List ℕ) (room : ℕ) → PlanText (planPrinted (treePlanOf make net room))
 unfolding treeListing
 tree-text make M net room = go (treePlanOf make net room) refl (net-answered net .either)
   where
@@ -102,7 +102,7 @@ tree-text make M net room = go (treePlanOf make net room) refl (net-answered net
     go (refused e) h f = inr (told e, ap planPrinted h)
     go (value w) h (inl (N, F)) =
         let q = tree-plan make M .nets net N F .returned room w h in
-        inl (size N, stated N (make N), made-in-range make M N (size N) (stated N (make N)) refl refl (F .in-range), ap planPrinted h ∙ ap (λ w. w .bytes) q)
+        inl (size N, stated N (make N (F .weights)), made-in-range make M N (F .weights) (size N) (stated N (make N (F .weights))) refl refl (F .in-range), ap planPrinted h ∙ ap (λ w. w .bytes) q)
     go (value w) h (inr (e, f)) = never w e (sym h ∙ tree-plan make M .refuses net room e .1 (TreePlanRefuses.in-net f))
 
 plan-one : (s t r : List ℕ) → PlanText s → PlanText t → s ≡ t ++ r → r ≡ []

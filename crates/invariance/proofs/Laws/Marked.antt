@@ -15,7 +15,7 @@ use Rattle.formats.specs.Decimal.{digits, showNat, show}
 use Rattle.formats.specs.Reading.Numbers.{lead, natural, field}
 use Rattle.formats.specs.Reading.Numbers.{value as digitsValue}
 use Rattle.formats.specs.Reading.Rows.{numberThen, rowIn, begins, lineIn}
-use Rattle.formats.specs.Reading.Nets.{readNet}
+use Rattle.formats.specs.Reading.Nets.{readWeighted, readNet}
 use Rattle.formats.specs.ListingText.{listingText}
 use Rattle.formats.specs.Outcome.{value}
 use Rattle.formats.proofs.Laws.Nets.NetTexts.{net-sound}
@@ -28,11 +28,11 @@ abbrev largeNet : Net
 largeNet = timesNet thousand smallNet
 
 read-small : readNet smallText ≡ value smallNet
-unfolding readNet numberThen rowIn begins lineIn field natural digitsValue lead distance span
+unfolding readNet readWeighted numberThen rowIn begins lineIn field natural digitsValue lead distance span
 read-small = refl
 
 read-large : readNet largeText ≡ value largeNet
-unfolding readNet numberThen rowIn begins lineIn field natural digitsValue lead distance span
+unfolding readNet readWeighted numberThen rowIn begins lineIn field natural digitsValue lead distance span
 read-large = refl
 
 pub marked : Marked

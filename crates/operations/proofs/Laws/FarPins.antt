@@ -57,6 +57,6 @@ far-pins = record {
   plan-only = λ net room l h. net-far net l (plan-fault net room (FarPin l) (plan-refuses net room (FarPin l) .0 h) (omega arith));
   judge-only = λ net listing l h. net-far net l (judge-fault net listing (FarPin l) (judge-refuses net listing (FarPin l) .0 h) (omega arith));
   near-inside = net-in-format;
-  far-told = λ N h v f. far-net N h (net-short N h) v f;
+  far-told = λ N w h k v f. far-net N w h k (net-short N w h k) v f;
   far-outside = λ net l f N g. never N (FarPin l) (sym (net-complete net N g) ∙ far-complete net l f);
 }

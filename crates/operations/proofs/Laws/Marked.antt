@@ -29,12 +29,12 @@ use Rattle.formats.specs.Outcome.{Outcome, value, refused, andThen}
 use Rattle.formats.specs.declared.refusal.Text.the-variants.{InNet, InListing}
 use Rattle.formats.specs.declared.refusal.Refusal.{Refusal}
 use Rattle.formats.specs.declared.refusal.Refusal.the-variants.{NotDue, OutOfRange, Unreachable, FarPin}
-use Rattle.formats.specs.Reading.Nets.{readNet}
+use Rattle.formats.specs.Reading.Nets.{readWeighted, readNet}
 use Rattle.formats.specs.ListingText.{Listing, listingText}
 use Rattle.formats.specs.Reading.Listings.{readListing}
 use Rattle.operations.specs.Accepting.{acceptTree}
 use Rattle.operations.specs.Answers.{planOf, planListing, planNet, judgement, judgeOf, Judgement}
-use Rattle.operations.specs.Marked.{textA, textA1, listingA, textThree, listingThree, textRootNearest, listingRootNearest, textNearerSink, listingNearerSink, pinText, metalsText, listingMetals, statedA, rangeText, TurnedAway, Marked}
+use Rattle.operations.specs.Marked.{textA, textA1, listingA, textThree, listingThree, textRootNearest, listingRootNearest, textNearerSink, listingNearerSink, pinText, metalsText, listingMetals, statedA, rangeText, weightText, textUnweighted, TurnedAway, Marked}
 use Rattle.formats.proofs.Laws.Lines.Outcomes.{then-refused}
 use Rattle.formats.proofs.Laws.Nets.NetTexts.{net-sound}
 use Rattle.operations.proofs.Laws.Answers.{plan-refused, judge-refused, Ends, unreachable, short, written, ends}
@@ -46,22 +46,22 @@ netA1 : Net
 netA1 = record { root = netA .root; branch = netA .branch; wire = netA .wire; need = pos 1; sinks = netA .sinks }
 
 read-A : readNet textA ≡ value netA
-unfolding readNet numberThen rowIn begins lineIn field natural digitsValue lead distance span
+unfolding readNet readWeighted numberThen rowIn begins lineIn field natural digitsValue lead distance span
 read-A = refl
 
 read-A1 : readNet textA1 ≡ value netA1
-unfolding netA1 readNet numberThen rowIn begins lineIn field natural digitsValue lead distance span
+unfolding netA1 readNet readWeighted numberThen rowIn begins lineIn field natural digitsValue lead distance span
 read-A1 = refl
 
 tree-of : List ℕ → Tree
 tree-of parents = record { parents = parents; points = point (pos 4) (pos 0) ∷ (point (pos 4) (pos 0) ∷ []) }
 
 read-root : readNet textRootNearest ≡ value rootNearest
-unfolding readNet numberThen rowIn begins lineIn field natural digitsValue lead distance span
+unfolding readNet readWeighted numberThen rowIn begins lineIn field natural digitsValue lead distance span
 read-root = refl
 
 read-sink : readNet textNearerSink ≡ value nearerSink
-unfolding readNet numberThen rowIn begins lineIn field natural digitsValue lead distance span
+unfolding readNet readWeighted numberThen rowIn begins lineIn field natural digitsValue lead distance span
 read-sink = refl
 
 abbrev judgedTree : Net → Listing → Outcome Judgement
@@ -131,7 +131,7 @@ A1-judged = judged-over textA1 netA1 read-A1 listingA (listedA (pos 0) 32) refl
 -- ---- three sinks at the root
 
 read-three : readNet textThree ≡ value threeAtRoot
-unfolding readNet numberThen rowIn begins lineIn field natural digitsValue lead distance span
+unfolding readNet readWeighted numberThen rowIn begins lineIn field natural digitsValue lead distance span
 read-three = refl
 
 plan-three : planListing threeAtRoot ≡ listingThree
@@ -174,7 +174,7 @@ sink-judged = judged-over textNearerSink nearerSink read-sink listingNearerSink
 -- ---- the nets of request 4
 
 read-metals : readNet (metalsText "2,6") ≡ value (twoMetals 2 6)
-unfolding readNet numberThen rowIn begins lineIn field natural digitsValue lead distance span
+unfolding readNet readWeighted numberThen rowIn begins lineIn field natural digitsValue lead distance span
 read-metals = refl
 
 plan-metals : planListing (twoMetals 2 6) ≡ listingMetals
@@ -190,7 +190,7 @@ metals-judged = judged-over (metalsText "2,6") (twoMetals 2 6) read-metals listi
     (record { slack = pos 30; wire = 26; tree = record { parents = 5 ∷ (4 ∷ (5 ∷ (0 ∷ (4 ∷ [])))); points = point (pos 4) (pos 0) ∷ (point (pos 10) (pos 0) ∷ []) } }) refl
 
 pub marked : Marked
-unfolding listed tree-of planListing listingText digits showNat show readNet readListing numberThen rowIn begins lineIn field natural digitsValue lead worstSlack wireLength plan planBy tieRule minℤ maxℤ median medianPoint delay distance span
+unfolding listed tree-of planListing listingText digits showNat show readNet readWeighted readListing numberThen rowIn begins lineIn field natural digitsValue lead worstSlack wireLength plan planBy tieRule minℤ maxℤ median medianPoint delay distance span
 marked = record {
   measures = tree.marked;
   A-format = net-sound textA netA read-A;
@@ -255,4 +255,14 @@ marked = record {
   vertical-0 = turned-away (metalsText "2,0") (OutOfRange InNet 3) refl;
   horizontal-10001 = turned-away (metalsText "10001,6") (OutOfRange InNet 3) refl;
   vertical-10001 = turned-away (metalsText "2,10001") (OutOfRange InNet 3) refl;
+  weight-least = net-sound (weightText "0" ",1") _ refl;
+  weight-most = net-sound (weightText "0" ",1000") _ refl;
+  weight-0 = turned-away (weightText "0" ",0") (OutOfRange InNet 6) refl;
+  weight-1001 = turned-away (weightText "0" ",1001") (OutOfRange InNet 6) refl;
+  weight-before-far = turned-away (weightText "40000001" ",1001") (OutOfRange InNet 6) refl;
+  far-weighted = turned-away (weightText "40000001" ",1000") (FarPin 6) refl;
+  weight-missing = turned-away (weightText "0" "") (NotDue InNet 6) refl;
+  weight-empty = turned-away (weightText "0" ",") (NotDue InNet 6) refl;
+  two-weights = turned-away (weightText "0" ",1,1") (NotDue InNet 6) refl;
+  second-unweighted = turned-away textUnweighted (NotDue InNet 7) refl;
 }

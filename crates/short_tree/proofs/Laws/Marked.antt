@@ -23,12 +23,12 @@ use Rattle.formats.specs.ListingText.{listingText}
 use Rattle.formats.specs.Reading.Numbers.{lead, natural, field}
 use Rattle.formats.specs.Reading.Numbers.{value as digitsValue}
 use Rattle.formats.specs.Reading.Rows.{numberThen, rowIn, begins, lineIn}
-use Rattle.formats.specs.Reading.Nets.{readNet}
+use Rattle.formats.specs.Reading.Nets.{readWeighted}
 use Rattle.formats.specs.declared.refusal.Refusal.the-variants.{TooShort}
-use Rattle.formats.proofs.Laws.Nets.NetTexts.{net-sound}
+use Rattle.formats.proofs.Laws.Nets.NetTexts.{WeightedFormat, weighted-sound}
 use Rattle.operations.specs.Answers.{stated, emitted, judgeOf}
 use Rattle.operations.specs.Demands.{withNeed}
-use Rattle.operations.specs.TreePlans.{treeListing, treePlanOf}
+use Rattle.operations.specs.TreePlans.{ignoringWeights, treeListing, treePlanOf}
 use Rattle.operations.specs.Marked.{textA, textA1}
 use Rattle.operations.proofs.Laws.Marked as first
 use Rattle.operations.proofs.Laws.TreePlans.{tree-judged}
@@ -38,21 +38,25 @@ use Rattle.short_tree.specs.Marked.{shortA, textTied, shortTied, textBra
 use Rattle.short_tree.proofs.Laws.SecondPlan.{short-makes, second-plan}
 
 -- a net that is read as N, and the listing of its short tree
-short-over : (net : List ℕ) (N : Net) → readNet net ≡ value N → (slack : ℤ) (wire : ℕ) (bytes : List ℕ) → worstSlack N (short N) ≡ slack → wireLength N (short N) ≡ wire → treeListing short N ≡ bytes
+short-over : (net : List ℕ) (N : Net) (w : List ℕ) → readWeighted net ≡ value (record { net = N; weights = w }) → (slack : ℤ) (wire : ℕ) (bytes : List ℕ) → worstSlack N (short N) ≡ slack → wireLength N (short N) ≡ wire → treeListing (ignoringWeights short) N w ≡ bytes
     → (room : ℕ) → length bytes ≤ room → shortOf net room ≡ value (record { slack = slack; wire = wire; bytes = bytes })
 unfolding treePlanOf treeListing
-short-over net N r slack wire bytes s w l room h =
+short-over net N w r slack wire bytes s e l room h =
     let t : ltb room (length (listingText (size N) (stated N (short N)))) ≡ false = le-ltb room (length (listingText (size N) (stated N (short N)))) (omega (arith, ap length l)) in
-    ap (λ o. andThen o (λ N. emitted (size N) (stated N (short N)) room)) r ∙ rw (emitted, t) (λ i. value (record { slack = s i; wire = w i; bytes = l i }))
+    ap (λ o. andThen o (λ M. emitted (size (M .net)) (stated (M .net) (short (M .net))) room)) r ∙ rw (emitted, t) (λ i. value (record { slack = s i; wire = e i; bytes = l i }))
 
 -- ---- A
 
-read-A : readNet textA ≡ value netA
-unfolding readNet numberThen rowIn begins lineIn field natural digitsValue lead distance span
+-- the weights of three sinks
+abbrev ones : List ℕ
+ones = 1 ∷ (1 ∷ (1 ∷ []))
+
+read-A : readWeighted textA ≡ value (record { net = netA; weights = ones })
+unfolding readWeighted numberThen rowIn begins lineIn field natural digitsValue lead distance span
 read-A = refl
 
-read-A1 : readNet textA1 ≡ value (withNeed (pos 1) netA)
-unfolding readNet numberThen rowIn begins lineIn field natural digitsValue lead distance span
+read-A1 : readWeighted textA1 ≡ value (record { net = withNeed (pos 1) netA; weights = ones })
+unfolding readWeighted numberThen rowIn begins lineIn field natural digitsValue lead distance span
 read-A1 = refl
 
 slack-A : worstSlack netA (short netA) ≡ negℤ (pos 10)
@@ -63,26 +67,36 @@ wire-A : wireLength netA (short netA) ≡ 26
 unfolding wireLength short minℤ maxℤ median medianPoint distance span
 wire-A = refl
 
-listing-A : treeListing short netA ≡ shortA
+listing-A : treeListing (ignoringWeights short) netA ones ≡ shortA
 unfolding treeListing listingText digits showNat show worstSlack wireLength short minℤ maxℤ median medianPoint delay distance span
 listing-A = refl
 
+-- the text's own weights are those
+format-A : WeightedFormat textA (record { net = netA; weights = ones })
+format-A = weighted-sound textA (record { net = netA; weights = ones }) read-A
+
+format-A1 : WeightedFormat textA1 (record { net = withNeed (pos 1) netA; weights = ones })
+format-A1 = weighted-sound textA1 (record { net = withNeed (pos 1) netA; weights = ones }) read-A1
+
+listing-read : treeListing (ignoringWeights short) netA (format-A .0 .weights) ≡ shortA
+listing-read = ap (treeListing (ignoringWeights short) netA) (format-A .1) ∙ listing-A
+
 A-short : (room : ℕ) → length shortA ≤ room → shortOf textA room ≡ value (record { slack = negℤ (pos 10); wire = 26; bytes = shortA })
-A-short = short-over textA netA read-A (negℤ (pos 10)) 26 shortA slack-A wire-A listing-A
+A-short = short-over textA netA ones read-A (negℤ (pos 10)) 26 shortA slack-A wire-A listing-A
 
 -- with another need nothing changes
 A1-short : (room : ℕ) → length shortA ≤ room → shortOf textA1 room ≡ value (record { slack = negℤ (pos 10); wire = 26; bytes = shortA })
-A1-short room h = second-plan .plan .nets textA netA (net-sound textA netA read-A) .needless textA1 (pos 1) (net-sound textA1 (withNeed (pos 1) netA) read-A1) room ∙ A-short room h
+A1-short room h = second-plan .plan .nets textA netA (format-A .0) .needless textA1 (pos 1) (format-A1 .0) (format-A1 .1 ∙ sym (format-A .1)) room ∙ A-short room h
 
 best-A : kraftMaximum (netA .branch) (ownSlacks netA) ≡ pos 0
 unfolding kraftMaximum searchDown floorDiv minℤ delay distance span
 best-A = refl
 
 A-judged : judgeOf textA shortA ≡ value (record { slack = negℤ (pos 10); wire = 26; best = pos 0 })
-A-judged = ap (judgeOf textA) (sym listing-A) ∙ tree-judged short short-makes textA netA (net-sound textA netA read-A) ∙ (λ i. value (record { slack = slack-A i; wire = wire-A i; best = best-A i }))
+A-judged = ap (judgeOf textA) (sym listing-read) ∙ tree-judged (ignoringWeights short) short-makes textA netA (format-A .0) ∙ (λ i. value (record { slack = slack-A i; wire = wire-A i; best = best-A i }))
 
 A-room : shortOf textA 79 ≡ refused TooShort
-A-room = second-plan .plan .nets textA netA (net-sound textA netA read-A) .short 79 .1 (omega (arith, ap length listing-A))
+A-room = second-plan .plan .nets textA netA (format-A .0) .short 79 .1 (omega (arith, ap length listing-read))
 
 -- ---- ties
 
@@ -96,8 +110,8 @@ tiedNet = record {
 }
 
 tied-sinks : (room : ℕ) → length shortTied ≤ room → shortOf textTied room ≡ value (record { slack = pos 0; wire = 10; bytes = shortTied })
-unfolding tiedNet readNet numberThen rowIn begins lineIn field natural digitsValue lead treeListing listingText digits showNat show worstSlack wireLength short minℤ maxℤ median medianPoint delay distance span
-tied-sinks = short-over textTied tiedNet refl (pos 0) 10 shortTied refl refl refl
+unfolding tiedNet readWeighted numberThen rowIn begins lineIn field natural digitsValue lead treeListing listingText digits showNat show worstSlack wireLength short minℤ maxℤ median medianPoint delay distance span
+tied-sinks = short-over textTied tiedNet ones refl (pos 0) 10 shortTied refl refl refl
 
 -- ---- an edge above a branch point
 
@@ -111,8 +125,8 @@ branchNet = record {
 }
 
 branch-edge : (room : ℕ) → length shortBranchEdge ≤ room → shortOf textBranchEdge room ≡ value (record { slack = pos 36; wire = 23; bytes = shortBranchEdge })
-unfolding branchNet readNet numberThen rowIn begins lineIn field natural digitsValue lead treeListing listingText digits showNat show worstSlack wireLength short minℤ maxℤ median medianPoint delay distance span
-branch-edge = short-over textBranchEdge branchNet refl (pos 36) 23 shortBranchEdge refl refl refl
+unfolding branchNet readWeighted numberThen rowIn begins lineIn field natural digitsValue lead treeListing listingText digits showNat show worstSlack wireLength short minℤ maxℤ median medianPoint delay distance span
+branch-edge = short-over textBranchEdge branchNet ones refl (pos 36) 23 shortBranchEdge refl refl refl
 
 pub marked : Marked
 unfolding short minℤ maxℤ median medianPoint distance span

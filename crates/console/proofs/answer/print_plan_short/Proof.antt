@@ -1,6 +1,6 @@
 -- What the plan has answered and left in the output is printed. No loop.
 use lib.ListN.{length}
-use Rattle.operations.specs.TreePlans.{treePlanOf, treePlanOutput}
+use Rattle.operations.specs.TreePlans.{ignoringWeights, treePlanOf, treePlanOutput}
 use Rattle.short_tree.specs.ShortTree.{short}
 use borrow.Author.Needs.{needs}
 use Rattle.console.proofs.answer.print_plan_short.Statement.{statement}
@@ -23,7 +23,7 @@ unfolding treePlanOutput
 returns c =
     let a = c .before .before .before .before .before .before .before .before .before .before .before .before .before .before .before .args in
     let says = c .before .before .before .before .before .before .before .before .before .plan-short .ensures in
-    c .before .before .before .before .print-planned .ensures (treePlanOf short (a .net .now) (length (a .out .now))) (a .out .now) (says .0) (says .1)
+    c .before .before .before .before .print-planned .ensures (treePlanOf (ignoringWeights short) (a .net .now) (length (a .out .now))) (a .out .now) (says .0) (says .1)
 
 pub print-plan-short-spec : {M : Type 1} → statement M
 print-plan-short-spec =

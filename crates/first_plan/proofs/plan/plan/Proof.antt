@@ -1,4 +1,5 @@
 -- Plan answers as its definition: a refused head at once, else by the arrays that fit the number of sinks. No loop.
+use Rattle.formats.proofs.Laws.Nets.NetTexts.{both-refuse}
 use Rattle.operations.proofs.Laws.Planning.{refused-answer}
 use borrow.Author.Needs.{needs}
 use Rattle.first_plan.proofs.plan.plan.Statement.{statement}
@@ -28,7 +29,7 @@ plan-large-requires c κs =
     rw (c .before .before .before .before .header .given .1) at (c .before .before .before .before .before .before .read-head .ensures)
 
 returns : tie.Need-returns
-returns c = refused-answer _ _ _ (rw (c .before .refusal .given .1) at (c .before .before .before .read-head .ensures))
+returns c = refused-answer _ _ _ (both-refuse _ _ (rw (c .before .refusal .given .1) at (c .before .before .before .read-head .ensures)))
 
 same-length : tie.Need-same-length
 same-length c = search needs

@@ -177,7 +177,7 @@ weighed : (h : Head) (sinks : List WeightedSink) → All LineIn sinks → Weight
 weighed h sinks k = weights-in-range _ (weightsIn sinks) (weights-length sinks ∙ sym (sinks-length sinks)) (all-map LineIn (λ s. s .weight) WeightIn (λ s w. w .1) sinks k)
 
 -- the text is in the format of the net M with its weights
-abbrev WeightedFormat : List ℕ → WeightedNet → Type 0
+abbrev pub WeightedFormat : List ℕ → WeightedNet → Type 0
 WeightedFormat s M = (f : InFormat s (M .net)) × (f .weights ≡ M .weights)
 
 -- a text within its length: its lines are those of a net in the format; or it is refused
@@ -225,7 +225,7 @@ length-cases {C = C} s o e bad f = go (ltb netLengthLimit (length s)) refl e
     go true q w = bad (sym w)
     go false q w = f (ltb-false netLengthLimit (length s) q) w
 
-weighted-sound : (s : List ℕ) (N : WeightedNet) → readWeighted s ≡ value N → WeightedFormat s N
+pub weighted-sound : (s : List ℕ) (N : WeightedNet) → readWeighted s ≡ value N → WeightedFormat s N
 weighted-sound s N e =
     length-cases s (value N) e (never N (TooLong InNet)) λ short w.
     net-cases s short (value N) w (λ l d p q b u. never N d u) (λ l p q u. never N (BytesFollow InNet l) u) (λ l p u. never N (FarPin l) u) λ M h u.
@@ -268,7 +268,11 @@ pub net-complete : (s : List ℕ) (N : Net) → InFormat s N → readNet s ≡ v
 unfolding readNet
 net-complete s N f = then-value (λ M. value (M .net)) (weighted-complete s N f)
 
--- a refusal is told by both readings
+-- what both readings come to is the same
+pub net-of : (s : List ℕ) (M : WeightedNet) → readWeighted s ≡ value M → readNet s ≡ value (M .net)
+unfolding readNet
+net-of s M h = then-value (λ M. value (M .net)) h
+
 pub both-refuse : (s : List ℕ) (e : Refusal) → readWeighted s ≡ refused e → readNet s ≡ refused e
 unfolding readNet
 both-refuse s e h = then-refused (λ M. value (M .net)) h

@@ -1,6 +1,7 @@
 -- Judge answers as its definition: a refused head at once, else by the arrays that fit the number of sinks. No loop.
 use mathlib.Core.Path.{sym, ap}
 use Rattle.operations.specs.Answers.{judgeAnswer}
+use Rattle.formats.proofs.Laws.Nets.NetTexts.{both-refuse}
 use Rattle.operations.proofs.Laws.Answers.{judge-refused}
 use borrow.Author.Needs.{needs}
 use Rattle.judging.proofs.judge.judge.Statement.{statement}
@@ -30,7 +31,7 @@ judge-large-requires c κs =
     rw (c .before .before .before .header .given .1) at (c .before .before .before .before .before .read-head .ensures)
 
 returns : tie.Need-returns
-returns c = sym (ap judgeAnswer (judge-refused _ _ (rw (c .before .refusal .given .1) at (c .before .before .before .read-head .ensures)) _))
+returns c = sym (ap judgeAnswer (judge-refused _ _ (both-refuse _ _ (rw (c .before .refusal .given .1) at (c .before .before .before .read-head .ensures))) _))
 
 returns-2 : tie.Need-returns-2
 returns-2 c = search needs

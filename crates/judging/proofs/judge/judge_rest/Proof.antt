@@ -6,6 +6,7 @@ use Rattle.tree.specs.Inner.Arrays.{netOf}
 use Rattle.formats.specs.Reading.Nets.{readNet}
 use Rattle.formats.specs.Outcome.{value}
 use Rattle.formats.proofs.Laws.Held.{read-net-holds}
+use Rattle.formats.proofs.Laws.Nets.NetTexts.{net-of, both-refuse}
 use Rattle.operations.specs.Answers.{judgeAnswer}
 use Rattle.operations.proofs.Laws.Answers.{judge-refused}
 use Rattle.operations.proofs.Laws.Judging.{judge-read}
@@ -16,12 +17,12 @@ use Rattle.judging.proofs.judge.judge_rest.Tie as tie
 -- the net that was read
 abbrev netRead : tie.After-enum-told → Net
 netRead c =
-    let a = c .before .before .before .before .before .before .before .before .before .before .before .before .before .before .before .args in
-    let l = c .before .before .before .before .before .read-rest .last .1 .1 .1 .1 in
+    let a = c .before .before .before .before .before .before .before .before .before .before .before .before .before .before .before .before .before .args in
+    let l = c .before .before .before .before .before .before .read-rest .last .1 .1 .1 .1 in
     netOf (a .header) (a .n) (l .0) (l .1 .0) (l .1 .1 .0)
 
-read : (c : tie.After-enum-told) → readNet (c .before .before .before .before .before .before .before .before .before .before .before .before .before .before .before .args .net .now) ≡ value (netRead c)
-read c = let s = c .before .before .before .before .before .before .before .before .before .before .before .before .before .before .before in s .pre .0 .0 ∙ (rw (c .enum-told .given .1) at (c .before .before .before .before .before .read-rest .ensures (s .args .header)))
+read : (c : tie.After-enum-told) → readNet (c .before .before .before .before .before .before .before .before .before .before .before .before .before .before .before .before .before .args .net .now) ≡ value (netRead c)
+read c = let s = c .before .before .before .before .before .before .before .before .before .before .before .before .before .before .before .before .before in net-of _ _ (s .pre .0 .0 ∙ (rw (c .enum-told .given .1) at (c .before .before .before .before .before .before .read-rest .ensures (s .args .header))))
 
 read-rest-requires : tie.Need-read-rest-requires
 read-rest-requires c κs = search needs
@@ -38,26 +39,26 @@ same-length-2 c = search needs
 same-length-3 : tie.Need-same-length-3
 same-length-3 c = search needs
 
+same-length-4 : tie.Need-same-length-4
+same-length-4 c = search needs
+
 returns : tie.Need-returns
 returns c =
-    let s = c .before .before .before .before .before .before .before .before .before .before .before .before .before .before .before .before in
-    sym (ap judgeAnswer (judge-refused _ _ (s .pre .0 .0 ∙ (rw (c .before .refusal .given .1) at (c .before .before .before .before .before .before .read-rest .ensures (s .args .header)))) _))
+    let s = c .before .before .before .before .before .before .before .before .before .before .before .before .before .before .before .before .before .before in
+    sym (ap judgeAnswer (judge-refused _ _ (both-refuse _ _ (s .pre .0 .0 ∙ (rw (c .before .refusal .given .1) at (c .before .before .before .before .before .before .before .read-rest .ensures (s .args .header))))) _))
 
 enum-told : tie.Need-enum-told
 enum-told c = search needs
 
 judge-listing-requires : tie.Need-judge-listing-requires
 judge-listing-requires c κs =
-    let s = c .before .before .before .before .before .before .before .before .before .before .before .before .before .before .before .before .before .before .before .before .before .before .before .before in
+    let s = c .before .before .before .before .before .before .before .before .before .before .before .before .before .before .before .before .before .before .before .before .before .before .before .before .before .before in
     let a = s .args in
-    let r = c .before .before .before .before .before .before .before .before .before .before .before .before .before .before .read-rest in
+    let r = c .before .before .before .before .before .before .before .before .before .before .before .before .before .before .before .read-rest in
     let l = r .last .1 .1 .1 .1 in
     let p = s .pre .1 in
     let h = read-net-holds (a .header) (a .n) (l .0) (l .1 .0) (l .1 .1 .0) _ (read (c .before .before .before .before .before .before .before .before .before)) (omega (arith, r .kept, p .0)) (omega (arith, r .kept, p .0)) (omega (arith, r .kept, p .0)) in
-    ((h, (p .1 .0, omega (arith, r .kept, p .1), omega (arith, r .kept, p .1))), (p .2, p .3))
-
-same-length-4 : tie.Need-same-length-4
-same-length-4 c = search needs
+    ((h, (p .1 .0, omega (arith, r .kept, p .1), omega (arith, r .kept, p .1))), (p .2, omega (arith, r .kept, p .3)))
 
 same-length-5 : tie.Need-same-length-5
 same-length-5 c = search needs
@@ -83,6 +84,9 @@ same-length-11 c = search needs
 same-length-12 : tie.Need-same-length-12
 same-length-12 c = search needs
 
+same-length-13 : tie.Need-same-length-13
+same-length-13 c = search needs
+
 returns-2 : tie.Need-returns-2
 returns-2 c =
     let d = c .before .before .before .before .before .before .before .before .before .before .before .before .before .before .before .before .before .before .before .before .before .before in
@@ -97,10 +101,10 @@ judge-rest-spec =
     same-length
     same-length-2
     same-length-3
+    same-length-4
     returns
     enum-told
     judge-listing-requires
-    same-length-4
     same-length-5
     same-length-6
     same-length-7
@@ -109,4 +113,5 @@ judge-rest-spec =
     same-length-10
     same-length-11
     same-length-12
+    same-length-13
     returns-2)

@@ -1,4 +1,5 @@
 -- The second plan answers as its definition: a refused head at once, else by the arrays that fit the number of sinks. No loop.
+use Rattle.operations.specs.TreePlans.{ignoringWeights}
 use Rattle.operations.proofs.Laws.TreePlans.{tree-refused-answer}
 use Rattle.short_tree.specs.ShortTree.{short}
 use borrow.Author.Needs.{needs}
@@ -29,7 +30,7 @@ plan-large-requires c κs =
     rw (c .before .before .before .before .header .given .1) at (c .before .before .before .before .before .before .read-head .ensures)
 
 returns : tie.Need-returns
-returns c = tree-refused-answer short _ _ _ (rw (c .before .refusal .given .1) at (c .before .before .before .read-head .ensures))
+returns c = tree-refused-answer (ignoringWeights short) _ _ _ (rw (c .before .refusal .given .1) at (c .before .before .before .read-head .ensures))
 
 same-length : tie.Need-same-length
 same-length c = search needs
