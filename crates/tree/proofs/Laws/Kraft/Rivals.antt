@@ -27,7 +27,7 @@ wayDelay D p zero v = zero
 wayDelay D p (suc j) v = D (p v) v + wayDelay D p j (p v)
 
 -- the straight wire from the root is no longer than the way
-far : {D : ℕ → ℕ → ℕ} → Metric D → (p : ℕ → ℕ) (j v : ℕ) → ancestor p j v ≡ 0 → D 0 v ≤ wayDelay D p j v
+pub far : {D : ℕ → ℕ → ℕ} → Metric D → (p : ℕ → ℕ) (j v : ℕ) → ancestor p j v ≡ 0 → D 0 v ≤ wayDelay D p j v
 far m p zero v h = rw h (le-of-eq (m .self 0))
 far m p (suc j) v h = omega (arith, far m p j (p v) h, m .triangle 0 (p v) v)
 

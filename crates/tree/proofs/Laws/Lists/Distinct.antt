@@ -6,7 +6,7 @@ use mathlib.Core.List.{List, [], _∷_, _++_, map}
 use native.Mathlib.Omega.{arith}
 use lib.ListN.{length}
 use Rattle.tree.specs.Lists.{sumOver, delta, count, range}
-use Rattle.tree.proofs.Laws.Lists.Sums.{sum-ones, delta-self, delta-ne, equal?, sum-split, sum-mono, sumOver-append, regroup-by}
+use Rattle.tree.proofs.Laws.Lists.Sums.{sum-ones, ones-length, delta-self, delta-ne, equal?, sum-split, sum-mono, sumOver-append, regroup-by}
 use Rattle.tree.proofs.Laws.Lists.Tables.{table-length}
 
 pub few : (l : List ℕ) (m : ℕ) → ((x : ℕ) → count x l ≢ 0 → (1 ≤ x) × (x ≤ m)) → ((x : ℕ) → count x l ≤ 1) → sumOver l (λ x. 1) ≤ m
@@ -72,10 +72,6 @@ table-once f a (suc e) x once = go (equal? x (f a)) (table-once f (suc a) e x (�
           table-none f (suc a) e x (λ j p q z. omega (arith, once j a (omega arith) (omega arith) (omega arith) (omega arith) (z ∙ i))),
         )
     go (inr d) ih = omega (arith, delta-ne x (f a) d)
-
-ones-length : (l : List ℕ) → sumOver l (λ x. 1) ≡ length l
-ones-length [] = refl
-ones-length (x ∷ l) = omega (arith, ones-length l)
 
 module _ (f : ℕ → ℕ) (e m : ℕ) (inside : (j : ℕ) → j < e → (1 ≤ f j) × (f j ≤ m)) where
   l : List ℕ

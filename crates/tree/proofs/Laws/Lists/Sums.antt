@@ -43,7 +43,7 @@ sum-member a (suc n) f x p q = go (eq-or-lt-of-le p) (λ l. sum-member (suc a) n
     go (inl e) ih = omega (arith, ap f e)
     go (inr l) ih = omega (arith, ih l)
 
-sum-zero : (a n : ℕ) → sum a n (λ i. 0) ≡ 0
+pub sum-zero : (a n : ℕ) → sum a n (λ i. 0) ≡ 0
 sum-zero a zero = refl
 sum-zero a (suc n) = omega (arith, sum-zero (suc a) n)
 
@@ -99,6 +99,12 @@ delta-ne zero (suc y) h = refl
 delta-ne (suc x) zero h = refl
 delta-ne (suc x) (suc y) h = delta-ne x y (λ e. h (ap suc e))
 
+pub delta-eq : (x y : ℕ) → delta x y ≢ 0 → x ≡ y
+delta-eq zero zero h = refl
+delta-eq zero (suc y) h = absurd (h refl)
+delta-eq (suc x) zero h = absurd (h refl)
+delta-eq (suc x) (suc y) h = ap suc (delta-eq x y h)
+
 pub equal? : (x y : ℕ) → (x ≡ y) ⊎ (x ≢ y)
 equal? zero zero = inl refl
 equal? zero (suc y) = inr (omega arith)
@@ -117,6 +123,11 @@ pub sumOver-mono : (l : List ℕ) (f g : ℕ → ℕ) → ((x : ℕ) → count x
 sumOver-mono [] f g h = zero-le
 sumOver-mono (y ∷ l) f g h = omega (arith, h y (omega (arith, delta-self y)), sumOver-mono l f g (λ x q. h x (omega arith)))
 
+-- none of the terms is above m
+pub sumOver-bound : (l : List ℕ) (f : ℕ → ℕ) (m : ℕ) → ((x : ℕ) → count x l ≢ 0 → f x ≤ m) → sumOver l f ≤ length l * m
+sumOver-bound [] f m h = zero-le
+sumOver-bound (x ∷ l) f m h = omega (arith, h x (omega (arith, delta-self x)), sumOver-bound l f m (λ y q. h y (omega arith)))
+
 pub sumOver-scale : (l : List ℕ) (k : ℕ) (f : ℕ → ℕ) → sumOver l (λ x. k * f x) ≡ k * sumOver l f
 sumOver-scale [] k f = sym (mul-zero k)
 sumOver-scale (y ∷ l) k f = omega (arith, sumOver-scale l k f)
@@ -129,6 +140,15 @@ sumOver-member (y ∷ l) f x h = go (sumOver-member l f x) (equal? x y)
     go ih (inl e) = omega (arith, ap f e)
     go ih (inr d) = omega (arith, ih (omega (arith, delta-ne x y d)))
 
+-- a sum that is not 0 has a term that is not 0
+pub sumOver-find : (l : List ℕ) (f : ℕ → ℕ) → sumOver l f ≢ 0 → (x : ℕ) × (count x l ≢ 0) × (f x ≢ 0)
+sumOver-find [] f h = absurd (h refl)
+sumOver-find (y ∷ l) f h = go (sumOver-find l f) (equal? (f y) 0)
+  where
+    go : (sumOver l f ≢ 0 → (x : ℕ) × (count x l ≢ 0) × (f x ≢ 0)) → (f y ≡ 0) ⊎ (f y ≢ 0) → (x : ℕ) × (delta x y + count x l ≢ 0) × (f x ≢ 0)
+    go ih (inl e) = let r : (x : ℕ) × (count x l ≢ 0) × (f x ≢ 0) = ih (omega arith) in (r .0, omega (arith, r .1), r .2)
+    go ih (inr d) = (y, omega (arith, delta-self y), d)
+
 -- the sum of f (q x), regrouped by the values of q
 pub regroup-by : (l : List ℕ) (q : ℕ → ℕ) (v : ℕ) (f : ℕ → ℕ) → ((x : ℕ) → count x l ≢ 0 → q x < v)
     → sumOver l (λ x. f (q x)) ≡ sum 0 v (λ u. sumOver l (λ x. delta u (q x)) * f u)
@@ -137,6 +157,10 @@ regroup-by (y ∷ l) q v f h =
     simp add-mul
     (rw (sum-add 0 v (λ u. delta u (q y) * f u) (λ u. sumOver l (λ x. delta u (q x)) * f u), sum-same 0 v (q y) f zero-le (omega (arith, h y (omega (arith, delta-self y)))))
     (ap (_+_ (f (q y))) (regroup-by l q v f (λ x p. h x (omega arith)))))
+
+pub down-length : (N k : ℕ) → length (down N k) ≡ k
+down-length N zero = refl
+down-length N (suc k) = ap suc (down-length N k)
 
 pub down-in : (N k u : ℕ) → count u (down N k) ≢ 0 → (N < u) × (u ≤ N + k)
 down-in N zero u h = absurd (h refl)
@@ -175,6 +199,10 @@ sumOver-change (y ∷ l) f g x h = go (sumOver-change l f g x (λ z q. h z (omeg
 pub some-length : (l : List ℕ) (y : ℕ) → count y l ≢ 0 → 0 < length l
 some-length [] y h = absurd (h refl)
 some-length (x ∷ l) y h = omega arith
+
+pub ones-length : (l : List ℕ) → sumOver l (λ x. 1) ≡ length l
+ones-length [] = refl
+ones-length (x ∷ l) = omega (arith, ones-length l)
 
 pub sumOver-add : (l : List ℕ) (f g : ℕ → ℕ) → sumOver l (λ x. f x + g x) ≡ sumOver l f + sumOver l g
 sumOver-add [] f g = refl

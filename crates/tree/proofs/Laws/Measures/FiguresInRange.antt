@@ -1,8 +1,8 @@
--- The planned tree's figures are in the listing's ranges, since settled points stay in the box of the root and the sinks. Assumes nothing.
+-- The figures of a settled tree, so of the planned one, are in the listing's ranges: settled points stay in the box of the root and the sinks. Assumes nothing.
 use Prim.Native.Nat.{ℕ, zero, suc, _+_, _*_, _-_, _≤_, _<_, zero-le}
 use mathlib.Core.Path.{_≡_, sym, ap, _∙_, subst}
 use mathlib.Core.Logic.{_≢_}
-use mathlib.Core.List.{List, [], _∷_}
+use mathlib.Core.List.{List}
 use native.Mathlib.Omega.{arith}
 use native.Mathlib.Decide.{decLe}
 use lib.ListN.{length, getD}
@@ -20,14 +20,14 @@ use Rattle.tree.specs.Measures.{edgeLength, slack, worstSlack, wireLengt
 use Rattle.tree.specs.Planning.{TieRule, planParents}
 use Rattle.tree.specs.Settling.{children, settled, settledTree, planBy}
 use Rattle.tree.specs.Limits.{positionLimit, needLimit, wireLimit, InRange}
-use Rattle.tree.proofs.Laws.Lists.Sums.{delta-self}
+use Rattle.tree.proofs.Laws.Lists.Sums.{sumOver-bound}
 use Rattle.tree.proofs.Laws.Trees.Walks.{hops-le}
 use Rattle.tree.proofs.Laws.Kraft.GapSums.{depthIn}
 use Rattle.tree.proofs.Laws.Lists.Tables.{range-length}
 use Rattle.tree.proofs.Laws.Planning.KeepsBest.{Least}
 use Rattle.tree.proofs.Laws.Measures.InReach.{kept-within}
 use Rattle.tree.proofs.Laws.Trees.Defects.{range-in}
-use Rattle.tree.proofs.Laws.Settling.SlackKept.{settled-is, settled-sink, settled-branch, at-settled}
+use Rattle.tree.proofs.Laws.Settling.SlackKept.{settled-legal, settled-is, settled-sink, settled-branch, at-settled}
 use Rattle.tree.proofs.Laws.Planning.AnyTieRule.{worst-is-least, sinks-in, plan-legal}
 
 -- ---- every settled point lies in the box of the root and the sinks, in any tree
@@ -68,19 +68,12 @@ stands-within N R (suc v) h = R .points (suc v) (omega arith) h
 pub boxed-within : (N : Net) → InRange N → (p : Point) → ((low high : Point) → ((v : ℕ) → v ≤ size N → InBox low high (sinkAt N v)) → InBox low high p) → PointWithin positionLimit p
 boxed-within N R p boxed = box-within positionLimit p (boxed _ _ (λ u l. within-box positionLimit _ (stands-within N R u l)))
 
-settled-within : (N : Net) → InRange N → (P : List ℕ) → Legal (size N) P → (v : ℕ) → v < 2 * size N → PointWithin positionLimit (place N (settledTree N P) v)
-settled-within N R P L v h = boxed-within N R _ (λ low high stands. place-in-box N P low high stands L v h)
-
-sum-bound : (l : List ℕ) (f : ℕ → ℕ) (m : ℕ) → ((x : ℕ) → count x l ≢ 0 → f x ≤ m) → sumOver l f ≤ length l * m
-sum-bound [] f m h = zero-le
-sum-bound (x ∷ l) f m h = omega (arith, h x (omega (arith, delta-self x)), sum-bound l f m (λ y q. h y (omega arith)))
-
 -- the wire of any legal tree whose vertices are all in range
 pub legal-wire-range : (N : Net) → InRange N → (T : Tree) → LegalTree N T → ((v : ℕ) → v < 2 * size N → PointWithin positionLimit (place N T v)) → wireLength N T ≤ wireLimit
 unfolding wireLength
 legal-wire-range N R T L within =
     let b : sumOver (range 1 (2 * size N - 1)) (edgeLength N T) ≤ length (range 1 (2 * size N - 1)) * (4 * positionLimit) =
-    sum-bound (range 1 (2 * size N - 1)) (edgeLength N T) (4 * positionLimit) each in
+    sumOver-bound (range 1 (2 * size N - 1)) (edgeLength N T) (4 * positionLimit) each in
     omega (arith, R .sinks, ap (λ n. n * (4 * positionLimit)) (range-length 1 (2 * size N - 1)))
   where
     below : (v : ℕ) → v < 2 * size N → parent T v < 2 * size N
@@ -92,6 +85,30 @@ legal-wire-range N R T L within =
         let h : (1 ≤ x) × (x < 1 + (2 * size N - 1)) = range-in 1 (2 * size N - 1) x m in
         distance-within positionLimit _ _ (within (parent T x) (below x (omega (arith, R .sinks)))) (within x (omega (arith, R .sinks)))
 
+-- ---- any settled tree
+
+module _ (N : Net) (R : InRange N) (P : List ℕ) (L : Legal (size N) P) where
+  pub settled-within : (v : ℕ) → v < 2 * size N → PointWithin positionLimit (place N (settledTree N P) v)
+  settled-within v h = boxed-within N R _ (λ low high stands. place-in-box N P low high stands L v h)
+
+  -- L is in its range
+  pub settled-wire-range : wireLength N (settledTree N P) ≤ wireLimit
+  settled-wire-range = legal-wire-range N R (settledTree N P) (settled-legal N P L) settled-within
+
+  -- W is in the range of t, so in its own
+  pub settled-slack-range : Within needLimit (worstSlack N (settledTree N P))
+  settled-slack-range =
+      let l : Least (range 1 (size N)) (slack N (settledTree N P)) (worstSlack N (settledTree N P)) = worst-is-least N (settledTree N P) (R .sinks .0) in
+      let s : ℕ = l .at in
+      let h : (1 ≤ s) × (s ≤ size N) = sinks-in N (R .branch .0) (R .sinks .0) s (l .in-list) in
+      let d : ℕ = depthIn (length P) (parentOf P) s in
+      let e : worstSlack N (settledTree N P) ≡ ownSlack N s -ℤ pos (d * N .branch) = sym (l .is) ∙ settled-is N P L s (h .0) (h .1) in
+      let deep = hops-le (parentOf P) (length P) (parentOf P s) in
+      let w = kept-within N R s d (h .0) (h .1) (omega (arith, L .size, R .sinks)) in
+      omega (arith, whole)
+
+-- ---- the planned tree
+
 module _ (tie : TieRule) (N : Net) (R : InRange N) where
   legal : Legal (size N) (planParents tie N)
   unfolding planBy
@@ -99,21 +116,13 @@ module _ (tie : TieRule) (N : Net) (R : InRange N) where
 
   pub plan-within : (v : ℕ) → v < 2 * size N → PointWithin positionLimit (place N (planBy tie N) v)
   unfolding planBy
-  plan-within v h = settled-within N R (planParents tie N) legal v h
+  plan-within = settled-within N R (planParents tie N) legal
 
-  -- L is in its range
   pub wire-range : wireLength N (planBy tie N) ≤ wireLimit
-  wire-range = legal-wire-range N R (planBy tie N) (plan-legal N (R .branch .0) (R .sinks .0) tie) plan-within
+  unfolding planBy
+  wire-range = settled-wire-range N R (planParents tie N) legal
 
-  -- "The lowest t is always reachable", and W is in its range
+  -- "The lowest t is always reachable"
   pub slack-range : Within needLimit (worstSlack N (planBy tie N))
   unfolding planBy
-  slack-range =
-      let l : Least (range 1 (size N)) (slack N (planBy tie N)) (worstSlack N (planBy tie N)) = worst-is-least N (planBy tie N) (R .sinks .0) in
-      let s : ℕ = l .at in
-      let h : (1 ≤ s) × (s ≤ size N) = sinks-in N (R .branch .0) (R .sinks .0) s (l .in-list) in
-      let d : ℕ = depthIn (length (planParents tie N)) (parentOf (planParents tie N)) s in
-      let e : worstSlack N (planBy tie N) ≡ ownSlack N s -ℤ pos (d * N .branch) = sym (l .is) ∙ settled-is N (planParents tie N) legal s (h .0) (h .1) in
-      let deep = hops-le (parentOf (planParents tie N)) (length (planParents tie N)) (parentOf (planParents tie N) s) in
-      let w = kept-within N R s d (h .0) (h .1) (omega (arith, legal .size, R .sinks)) in
-      omega (arith, whole)
+  slack-range = settled-slack-range N R (planParents tie N) legal

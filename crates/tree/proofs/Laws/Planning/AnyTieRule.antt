@@ -19,14 +19,14 @@ use Rattle.tree.proofs.Laws.Measures.VertexDelays.{between, between-met
 use Rattle.tree.proofs.Laws.Planning.BeforeSettling.{least-law, Done, planned, after-insertions}
 use Rattle.tree.proofs.Laws.Lists.Tables.{range-length}
 use Rattle.tree.proofs.Laws.Kraft.Rivals.{KraftOver, ownIn, rival-kraft}
-use Rattle.tree.proofs.Laws.Settling.SlackKept.{range-count, settled-is}
+use Rattle.tree.proofs.Laws.Settling.SlackKept.{range-count, settled-legal, settled-is}
 use Rattle.tree.proofs.Laws.Lists.Sums.{equal?, delta-self, delta-ne, sumOver-cong, down-once, down-in}
 use Rattle.tree.specs.Kraft.{floors, power, powers, Above, Kraft, IsKraftMaximum, top, kraftMaximum}
 use Rattle.tree.specs.Lists.{sumOver, count, down, range, least}
 use Rattle.tree.specs.Measures.{slack, worstSlack, depth}
-use Rattle.tree.specs.Net.{branchNumbers, Net, size, required, ownSlack, ownSlacks}
+use Rattle.tree.specs.Net.{Net, size, required, ownSlack, ownSlacks}
 use Rattle.tree.specs.Planning.{TieRule, order, unsettled, parentsAfter, planParents}
-use Rattle.tree.specs.Settling.{settled, planBy}
+use Rattle.tree.specs.Settling.{planBy}
 use Rattle.tree.specs.Tree.{parentOf, Tree, LegalTree}
 
 -- ---- Kraft's condition on the list of own slacks, by gaps
@@ -163,7 +163,7 @@ module _ (N : Net) (c1 : 0 < N .branch) (n1 : 1 ≤ size N) where
 
     pub plan-legal : LegalTree N (planBy tie N)
     unfolding planBy
-    plan-legal = record { shape = ends (size N) (N .branch) (size N - 1) (ownSlack N) (D .sinks) (planParents tie N) (omega arith) (D .grown) once; placed = length-map (branchNumbers (size N)) (settled N (planParents tie N) (2 * size N)) ∙ range-length (suc (size N)) (size N - 1) }
+    plan-legal = settled-legal N (planParents tie N) (ends (size N) (N .branch) (size N - 1) (ownSlack N) (D .sinks) (planParents tie N) (omega arith) (D .grown) once)
 
     pub plan-maximum : IsKraftMaximum (N .branch) (ownSlacks N) (worstSlack N (planBy tie N))
     unfolding planBy

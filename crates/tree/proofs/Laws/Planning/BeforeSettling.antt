@@ -15,7 +15,7 @@ use Rattle.quantities.specs.Inner.Linear.{whole}
 use Rattle.quantities.specs.MinMax.{minℤ}
 use Rattle.tree.proofs.Laws.Trees.Growing.{split-tree, PartTree}
 use Rattle.tree.proofs.Laws.Planning.KeepsBest.{Least, ≤ℤ-trans, Grown, start, after, grow, splits, fuel}
-use Rattle.tree.proofs.Laws.Trees.LegalTrees.{sum-down}
+use Rattle.tree.proofs.Laws.Trees.LegalTrees.{sum-down, hangs}
 use Rattle.tree.proofs.Laws.Measures.VertexDelays.{tree-more, dep-more, unsettled-is}
 use Rattle.tree.proofs.Laws.Lists.Tables.{range-length}
 use Rattle.tree.proofs.Laws.Lists.Sums.{sum, sumOver-append, equal?, delta-self, delta-ne, down-in, down-once}
@@ -195,7 +195,7 @@ module _ (o : ℕ → ℤ) (before : ℕ → ℕ → Bool) (says : (x y : ℕ) (
           le y m (inl q) = rw q h
           le y m (inr d) = r .0 y (omega (arith, insert-count before x l y, delta-ne y x d))
 
-  sort-rising : (l : List ℕ) → Rising o (sort before l)
+  pub sort-rising : (l : List ℕ) → Rising o (sort before l)
   sort-rising [] = tt
   sort-rising (x ∷ l) = insert-rising x (sort before l) (sort-rising l)
 
@@ -207,7 +207,7 @@ insert-length before x (z ∷ l) = go (before x z) (insert-length before x l)
     go true ih = refl
     go false ih = ap suc ih
 
-sort-length : (before : ℕ → ℕ → Bool) (l : List ℕ) → length (sort before l) ≡ length l
+pub sort-length : (before : ℕ → ℕ → Bool) (l : List ℕ) → length (sort before l) ≡ length l
 sort-length before [] = refl
 sort-length before (x ∷ l) = insert-length before x (sort before l) ∙ ap suc (sort-length before l)
 
@@ -323,22 +323,13 @@ module _ (tie : TieRule) (N : Net) (c1 : 0 < N .branch) where
       P : List ℕ
       P = replicate (2 * size N - 1) 0
 
-      zero-at : (m i : ℕ) → getD {A = ℕ} (replicate m 0) i 0 ≡ 0
-      zero-at zero i = refl
-      zero-at (suc m) zero = refl
-      zero-at (suc m) (suc i) = zero-at m i
-
-      hangs : (v : ℕ) → parentOf P v ≡ 0
-      hangs zero = refl
-      hangs (suc v) = zero-at (2 * size N - 1) v
-
       go : (l : List ℕ) → length l ≡ size N → ((y : ℕ) → count y l ≡ count y (down 0 (size N))) → Rising (ownSlack N) l
           → Done j (λ y. count y (take (suc j) l)) (insertAll tie N (take j (drop 1 l)) (take 1 l) 0 P)
       go [] e all rise = absurd (omega arith)
       go (s ∷ l) e all rise =
           let r : Done (length (take j l) + 0) (λ y. count y (s ∷ []) + count y (take j l)) (insertAll tie N (take j l) (s ∷ []) 0 P) =
           loop (take j l) s [] 0 P
-          (start (size N) (N .branch) s (ownSlack N) P (omega (arith, length-replicate (2 * size N - 1) zero)) (in-range .0) (in-range .1) (hangs s))
+          (start (size N) (N .branch) s (ownSlack N) P (omega (arith, length-replicate (2 * size N - 1) zero)) (in-range .0) (in-range .1) (hangs (2 * size N - 1) s))
           (omega (arith, length-take j l)) (λ y. omega (arith, all y, take-count y j l)) (λ x y mx my. first x y mx (omega (arith, take-count y j l)) (equal? x s)) (take-rising (ownSlack N) j l (rise .1)) in
           let q : j ≡ length (take j l) + 0 = omega (arith, length-take j l) in
           record { sinks = r .sinks; grown = subst (λ i. Grown (size N) (N .branch) (ownSlack N) (r .sinks) i (insertAll tie N (take j l) (s ∷ []) 0 P)) (sym q) (r .grown); all = λ y. omega (arith, r .all y) }

@@ -6,24 +6,10 @@ use Prim.Native.Nat.{ℕ, zero, suc, _+_, _<_}
 use native.Mathlib.Omega.{arith}
 use Rattle.tree.proofs.Laws.Trees.AnySplit.{meet}
 use Rattle.tree.proofs.Laws.Trees.Growing.{PartTree, hops-up}
-use Rattle.tree.proofs.Laws.Lists.Sums.{delta-self, delta-ne, equal?, down-in}
+use Rattle.tree.proofs.Laws.Lists.Sums.{delta-self, delta-ne, delta-eq, equal?, sumOver-find, down-in}
 use Rattle.tree.proofs.Laws.Trees.Walks.{hops, hops-le}
 use Rattle.tree.specs.Lists.{sumOver, delta, count, down}
 use Rattle.tree.specs.Tree.{ancestor}
-
-sumOver-find : (l : List ℕ) (f : ℕ → ℕ) → sumOver l f ≢ 0 → (x : ℕ) × (count x l ≢ 0) × (f x ≢ 0)
-sumOver-find [] f h = absurd (h refl)
-sumOver-find (y ∷ l) f h = go (sumOver-find l f) (equal? (f y) 0)
-  where
-    go : (sumOver l f ≢ 0 → (x : ℕ) × (count x l ≢ 0) × (f x ≢ 0)) → (f y ≡ 0) ⊎ (f y ≢ 0) → (x : ℕ) × (delta x y + count x l ≢ 0) × (f x ≢ 0)
-    go ih (inl e) = let r : (x : ℕ) × (count x l ≢ 0) × (f x ≢ 0) = ih (omega arith) in (r .0, omega (arith, r .1), r .2)
-    go ih (inr d) = (y, omega (arith, delta-self y), d)
-
-delta-eq : (x y : ℕ) → delta x y ≢ 0 → x ≡ y
-delta-eq zero zero h = refl
-delta-eq zero (suc y) h = absurd (h refl)
-delta-eq (suc x) zero h = absurd (h refl)
-delta-eq (suc x) (suc y) h = ap suc (delta-eq x y h)
 
 pub meet-next : (p : ℕ → ℕ) (j u z : ℕ) → meet p j u z ≢ 0 → meet p (suc j) (p u) z ≢ 0
 meet-next p zero u z h = absurd (h refl)

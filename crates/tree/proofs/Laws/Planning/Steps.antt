@@ -15,7 +15,7 @@ use Rattle.tree.specs.Tree.{parentOf}
 use Rattle.tree.specs.Planning.{TieRule, order, split, chosen, insertAll, parentsAfter}
 use Rattle.tree.specs.SmallestSlack.{nextSink}
 use Rattle.tree.proofs.Laws.Lists.Sums.{delta-self, delta-ne, equal?, down-in, down-once}
-use Rattle.tree.proofs.Laws.Trees.LegalTrees.{somewhere}
+use Rattle.tree.proofs.Laws.Trees.LegalTrees.{somewhere, hangs}
 use Rattle.tree.proofs.Laws.Planning.KeepsBest.{Grown, start}
 use Rattle.tree.proofs.Laws.Planning.BeforeSettling.{Rising, step, order-count, order-length, order-rising}
 
@@ -127,16 +127,7 @@ module _ (N : Net) where
   module _ (tie : TieRule) (c1 : 0 < N .branch) where
     pub grown-at : (j : ℕ) → j < size N → Grown (size N) (N .branch) (ownSlack N) (inserted N j) j (parentsAfter tie N j)
     grown-at zero h =
-        start (size N) (N .branch) (getD (order N) 0 0) (ownSlack N) (replicate (2 * size N - 1) 0) (omega (arith, length-replicate (2 * size N - 1) zero)) (order-in 0 h .0) (order-in 0 h .1) (hangs (getD (order N) 0 0))
-      where
-        zeros : (m i : ℕ) → getD {A = ℕ} (replicate m 0) i 0 ≡ 0
-        zeros zero i = refl
-        zeros (suc m) zero = refl
-        zeros (suc m) (suc i) = zeros m i
-
-        hangs : (v : ℕ) → parentOf (replicate (2 * size N - 1) 0) v ≡ 0
-        hangs zero = refl
-        hangs (suc v) = zeros (2 * size N - 1) v
+        start (size N) (N .branch) (getD (order N) 0 0) (ownSlack N) (replicate (2 * size N - 1) 0) (omega (arith, length-replicate (2 * size N - 1) zero)) (order-in 0 h .0) (order-in 0 h .1) (hangs (2 * size N - 1) (getD (order N) 0 0))
     grown-at (suc j) h =
         subst (Grown (size N) (N .branch) (ownSlack N) (inserted N (suc j)) (suc j)) (sym (parents-next tie N j h))
         (step tie N c1 (grown-at j (omega arith)) (nextSink N j) (order-in (suc j) h .0) (order-in (suc j) h .1) (next-fresh j h) h (inserted-rising j h))

@@ -4,7 +4,7 @@ use mathlib.Core.Path.{_≡_, refl, sym, ap, ap₂, _∙_, subst}
 use mathlib.Core.Bool.{Bool, true, false, cond}
 use mathlib.Core.Logic.{_≢_, _⊎_, inl, inr}
 use mathlib.Core.List.{List, [], _∷_, _++_, map}
-use native.Mathlib.Nat.{add-comm}
+use native.Mathlib.Nat.{add-comm, zero-mul}
 use native.Mathlib.Numerals.{add-one}
 use native.Mathlib.Omega.{arith}
 use native.Mathlib.Decide.{decLe}
@@ -17,7 +17,7 @@ use Rattle.quantities.specs.Delay.{delay}
 use Rattle.quantities.specs.Median.{medianPoint}
 use Rattle.tree.specs.Lists.{sumOver, delta, count, down, range}
 use Rattle.tree.specs.Net.{Net, size, required, sinkAt, ownSlack}
-use Rattle.tree.specs.Tree.{Tree, parentOf, ancestor, Legal, place}
+use Rattle.tree.specs.Tree.{Tree, parentOf, ancestor, Legal, LegalTree, place}
 use Rattle.tree.specs.Measures.{slack}
 use Rattle.tree.specs.Planning.{unsettled}
 use Rattle.tree.specs.Settling.{childrenIn, children, settled, settledTree}
@@ -27,7 +27,7 @@ use Rattle.tree.proofs.Laws.Trees.StepsToRoot.{legal-reach}
 use Rattle.tree.proofs.Laws.Trees.Growing.{PartTree}
 use Rattle.tree.proofs.Laws.Kraft.GapSums.{depthIn}
 use Rattle.tree.proofs.Laws.Trees.LegalTrees.{legal-tree, somewhere, sum-down}
-use Rattle.tree.proofs.Laws.Lists.Tables.{table-at}
+use Rattle.tree.proofs.Laws.Lists.Tables.{table-length, table-at}
 use Rattle.quantities.proofs.Laws.Delay.{delay-self, delay-through-median, delay-through-median₂}
 use Rattle.tree.proofs.Laws.Kraft.Rivals.{wayDelay}
 use Rattle.tree.proofs.Laws.Measures.VertexDelays.{between, own-is, slack-is, unsettled-is, place-sink, sub-sub}
@@ -65,17 +65,21 @@ module _ (p : ℕ → ℕ) (b : ℕ) where
       go true e (suc j) h ih = let r : (p (getD (childrenIn p b l) j 0) ≡ b) × (count (getD (childrenIn p b l) j 0) l ≢ 0) = ih j (omega arith) in (r .0, omega (arith, r .1))
       go false e j h ih = let r : (p (getD (childrenIn p b l) j 0) ≡ b) × (count (getD (childrenIn p b l) j 0) l ≢ 0) = ih j h in (r .0, omega (arith, r .1))
 
+  -- each as often as it stands in the list, and what is no child not at all
+  pub times-child : (l : List ℕ) (x : ℕ) → count x (childrenIn p b l) ≡ count x l * delta b (p x)
+  times-child [] x = sym (zero-mul (delta b (p x)))
+  times-child (v ∷ l) x = go (eqb (p v) b) (same-eqb b (p v)) (equal? x v) (times-child l x)
+    where
+      go : (t : Bool) → cond t (p v ≡ b) (p v ≢ b) → (x ≡ v) ⊎ (x ≢ v) → count x (childrenIn p b l) ≡ count x l * delta b (p x)
+          → count x (cond t (v ∷ childrenIn p b l) (childrenIn p b l)) ≡ (delta x v + count x l) * delta b (p x)
+      go true h (inl q) ih = let d : delta b (p x) ≡ 1 = ap (delta b) (ap p q ∙ h) ∙ delta-self b in rw d (omega (arith, rw d at ih))
+      go true h (inr q) ih = rw (delta-ne x v q) (omega arith)
+      go false h (inl q) ih = let d : delta b (p x) ≡ 0 = delta-ne b (p x) (λ e. h (ap p (sym q) ∙ sym e)) in rw d (omega (arith, rw d at ih))
+      go false h (inr q) ih = rw (delta-ne x v q) (omega arith)
+
   -- and no child is left out
   pub children-all : (l : List ℕ) (x : ℕ) → count x l ≢ 0 → p x ≡ b → count x (childrenIn p b l) ≢ 0
-  children-all [] x m e = m
-  children-all (v ∷ l) x m e = go (eqb (p v) b) (same-eqb b (p v)) (equal? x v) (λ q. children-all l x q e)
-    where
-      go : (t : Bool) → cond t (p v ≡ b) (p v ≢ b) → (x ≡ v) ⊎ (x ≢ v) → (count x l ≢ 0 → count x (childrenIn p b l) ≢ 0)
-          → count x (cond t (v ∷ childrenIn p b l) (childrenIn p b l)) ≢ 0
-      go true h (inl q) ih = omega (arith, ap (delta x) (sym q), delta-self x)
-      go true h (inr d) ih = omega (arith, ih (omega (arith, delta-ne x v d)))
-      go false h (inl q) ih = absurd (h (ap p (sym q) ∙ e))
-      go false h (inr d) ih = ih (omega (arith, delta-ne x v d))
+  children-all l x m e = omega (arith, times-child l x, ap (λ z. count x l * z) (ap (delta b) e ∙ delta-self b))
 
 pub of-two : (l : List ℕ) (x : ℕ) → length l ≡ 2 → count x l ≢ 0 → (x ≡ getD l 0 0) ⊎ (x ≡ getD l 1 0)
 of-two [] x e m = absurd (omega arith)
@@ -97,6 +101,10 @@ place-node N Q j =
 
 pub range-count : (n x : ℕ) → count x (range 1 n) ≡ count x (down 0 n)
 range-count n x = sumOver-range 1 n (delta x) ∙ sum-down 0 n (delta x)
+
+-- settling puts each branch point somewhere
+pub settled-legal : (N : Net) (P : List ℕ) → Legal (size N) P → LegalTree N (settledTree N P)
+settled-legal N P L = record { shape = L; placed = table-length (settled N P (2 * size N)) (suc (size N)) (size N - 1) }
 
 pub settled-sink : (N : Net) (P : List ℕ) (k v : ℕ) → v ≤ size N → settled N P (suc k) v ≡ sinkAt N v
 settled-sink N P k v h = go (leb v (size N)) (le→leb v (size N) h)

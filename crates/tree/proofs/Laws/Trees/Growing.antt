@@ -53,7 +53,7 @@ module _ {N : ℕ} {S : List ℕ} {k F : ℕ} {p : ℕ → ℕ} (t : PartTree N 
   twice zero h r = absurd (h refl)
   twice (suc v) h r = halve p F v r
 
-  inner-lt : (v : ℕ) → Inner N k v → v < suc (N + k)
+  pub inner-lt : (v : ℕ) → Inner N k v → v < suc (N + k)
   inner-lt v (inl e) = omega arith
   inner-lt v (inr h) = omega arith
 

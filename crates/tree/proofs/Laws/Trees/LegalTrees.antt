@@ -7,7 +7,7 @@ use native.Mathlib.Nat.{add-comm}
 use native.Mathlib.Decide.{decLe}
 use native.Mathlib.Numerals.{add-one}
 use native.Mathlib.Omega.{arith}
-use lib.ListN.{length, getD, length-set}
+use lib.ListN.{length, getD, replicate, length-set}
 use lib.Seq.{getD-set-same, getD-set-other}
 use Rattle.tree.proofs.Laws.Trees.Growing.{PartTree, Split}
 use Rattle.tree.proofs.Laws.Trees.Walks.{ancestor-top}
@@ -45,6 +45,13 @@ pub somewhere : (l : List ℕ) (i : ℕ) → i < length l → count (getD l i 0)
 somewhere [] i h = absurd (omega arith)
 somewhere (x ∷ l) zero h = omega (arith, delta-self x)
 somewhere (x ∷ l) (suc i) h = omega (arith, somewhere l i (omega arith))
+
+-- where nothing has a parent yet, everything hangs on the root
+pub hangs : (m v : ℕ) → parentOf (replicate m 0) v ≡ 0
+hangs m zero = refl
+hangs zero (suc v) = refl
+hangs (suc m) (suc zero) = refl
+hangs (suc m) (suc (suc v)) = hangs m (suc v)
 
 -- the children of each vertex of a legal tree, as a growing tree counts them
 legal-counts : (n : ℕ) (P : List ℕ) → Legal n P → (u : ℕ) → count u P ≡ delta u 0 + 2 * count u (down n (n - 1))
