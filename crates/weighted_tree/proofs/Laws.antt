@@ -1,1 +1,10 @@
 -- Laws of the tree by switching weights, bottom first.
+pub mod Exchange
+pub mod Forests
+pub mod Costs
+pub mod Picking
+pub mod Joins
+pub mod Fits
+pub mod LeastWeighted
+pub mod Ranges
+pub mod Marked
