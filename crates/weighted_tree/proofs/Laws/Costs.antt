@@ -1,6 +1,6 @@
 -- What a forest that is joined into one tree costs: the sum of weight times depth is what the joined vertices weigh, and no legal tree has a smaller one.
 -- Assumes nothing.
-use mathlib.Core.Path.{_≡_, refl, sym, ap}
+use mathlib.Core.Path.{_≡_, sym, ap}
 use mathlib.Core.Logic.{_≢_, _⊎_, inl, inr}
 use mathlib.Core.List.{List, [], _∷_}
 use Prim.Native.Nat.{ℕ, suc, _+_, _-_, _*_, _≤_, _<_, zero-le}
@@ -36,7 +36,7 @@ regroup-weighted (y ∷ l) q v w g h =
 -- the sum of weight times depth is the sum of what the branch points carry
 module _ {N : ℕ} {S : List ℕ} {k F : ℕ} {p : ℕ → ℕ} (t : PartTree N S k F p) (w : ℕ → ℕ)
     (load : (u : ℕ) → u ≢ 0 → sumOver S (λ x. delta u (p x) * w x) + sumOver (down N k) (λ x. delta u (p x) * w x) ≡ count u (down N k) * w u) where
-  pub cost-tree : cost S w (λ s. hops p F (p s)) ≡ sumOver (down N k) w
+  cost-tree : cost S w (λ s. hops p F (p s)) ≡ sumOver (down N k) w
   cost-tree =
       let v : ℕ = suc (N + k) in
       let g : ℕ → ℕ = hops p F in

@@ -12,29 +12,30 @@ use Rattle.tree.specs.Lists.{sumOver, delta, count}
 use Rattle.tree.proofs.Laws.Lists.Sums.{delta-self, delta-ne, delta-eq, equal?, sumOver-cong, sumOver-mono, sumOver-find, sumOver-change}
 use Rattle.tree.proofs.Laws.Kraft.GapSums.{powerSum, AtMost}
 
-abbrev pub pick : ℕ → ℕ → ℕ → ℕ
-pick zero a b = b
-pick (suc k) a b = a
+-- a where the number is not 0, else b
+abbrev ifAny : ℕ → ℕ → ℕ → ℕ
+ifAny zero a b = b
+ifAny (suc k) a b = a
 
 -- f, but a at z
-abbrev pub at : (ℕ → ℕ) → ℕ → ℕ → ℕ → ℕ
-at f z a s = pick (delta s z) a (f s)
+abbrev at : (ℕ → ℕ) → ℕ → ℕ → ℕ → ℕ
+at f z a s = ifAny (delta s z) a (f s)
 
-pub at-same : (f : ℕ → ℕ) (z a : ℕ) → at f z a z ≡ a
-at-same f z a = ap (λ k. pick k a (f z)) (delta-self z)
+at-same : (f : ℕ → ℕ) (z a : ℕ) → at f z a z ≡ a
+at-same f z a = ap (λ k. ifAny k a (f z)) (delta-self z)
 
-pub at-other : (f : ℕ → ℕ) (z a s : ℕ) → s ≢ z → at f z a s ≡ f s
-at-other f z a s h = ap (λ k. pick k a (f s)) (delta-ne s z h)
+at-other : (f : ℕ → ℕ) (z a s : ℕ) → s ≢ z → at f z a s ≡ f s
+at-other f z a s h = ap (λ k. ifAny k a (f s)) (delta-ne s z h)
 
 -- the cost of depths, and how many are M
 abbrev pub cost : List ℕ → (ℕ → ℕ) → (ℕ → ℕ) → ℕ
 cost A w d = sumOver A (λ s. w s * d s)
 
-abbrev pub deep : List ℕ → ℕ → (ℕ → ℕ) → ℕ
+abbrev deep : List ℕ → ℕ → (ℕ → ℕ) → ℕ
 deep A M d = sumOver A (λ s. delta (d s) M)
 
 -- a sum after one value is set anew
-pub change-at : (R : List ℕ) (d : ℕ → ℕ) (z a : ℕ) (F : ℕ → ℕ → ℕ) → count z R ≡ 1
+change-at : (R : List ℕ) (d : ℕ → ℕ) (z a : ℕ) (F : ℕ → ℕ → ℕ) → count z R ≡ 1
     → sumOver R (λ s. F s (at d z a s)) + F z (d z) ≡ sumOver R (λ s. F s (d s)) + F z a
 change-at R d z a F h =
     omega (arith, sumOver-change R (λ s. F s (d s)) (λ s. F s (at d z a s)) z (λ y q n. ap (F y) (at-other d z a y n)), ap (λ k. k * F z (d z)) h, ap (λ k. k * F z (at d z a z)) h, ap (F z) (at-same d z a))
@@ -54,7 +55,7 @@ pub record Moved (R : List ℕ) (w d : ℕ → ℕ) (M v a : ℕ) : Type 0 where
   pub deep-eq : deep R M e + 1 ≡ deep R M d + delta a M
 
 module _ (R : List ℕ) (w d : ℕ → ℕ) (M v a : ℕ) (once : (z : ℕ) → count z R ≤ 1) (up : AtMost R M d) (le : a ≤ M) (least : (z : ℕ) → count z R ≢ 0 → v ≤ w z) where
-  pub displace : deep R M d + delta a M ≢ 0 → Moved R w d M v a
+  displace : deep R M d + delta a M ≢ 0 → Moved R w d M v a
   displace h = go (equal? a M)
     where
       zero-pow : (x : ℕ) → x ≡ M → 2 ^ (M - x) ≡ 1

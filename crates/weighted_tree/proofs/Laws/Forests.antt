@@ -16,15 +16,15 @@ use Rattle.tree.proofs.Laws.Kraft.GapSums.{powerSum, AtMost}
 use Rattle.weighted_tree.proofs.Laws.Exchange.{cost, Under, merge}
 
 -- a list without one x
-abbrev pub keep : ℕ → ℕ → List ℕ → List ℕ → List ℕ
+abbrev keep : ℕ → ℕ → List ℕ → List ℕ → List ℕ
 keep zero y l r = y ∷ r
 keep (suc k) y l r = l
 
-abbrev pub without : ℕ → List ℕ → List ℕ
+abbrev without : ℕ → List ℕ → List ℕ
 without x [] = []
 without x (y ∷ l) = keep (delta x y) y l (without x l)
 
-pub without-sum : (x : ℕ) (l : List ℕ) (f : ℕ → ℕ) → count x l ≢ 0 → sumOver l f ≡ f x + sumOver (without x l) f
+without-sum : (x : ℕ) (l : List ℕ) (f : ℕ → ℕ) → count x l ≢ 0 → sumOver l f ≡ f x + sumOver (without x l) f
 without-sum x [] f h = absurd (h refl)
 without-sum x (y ∷ l) f h = go (without-sum x l f) (equal? x y)
   where
@@ -48,11 +48,11 @@ sum-two (z ∷ l) f g x y n h = go (sum-two l f g x y n (λ v q. h v (omega arit
     go ih (inr d) (inl e) = rw (delta-ne x z d) (rw (← e) (rw (delta-self y) (omega arith)))
     go ih (inr d) (inr e) = rw (delta-ne x z d, delta-ne y z e) (omega (arith, h z (omega (arith, delta-self z)) (λ q. d (sym q)) (λ q. e (sym q))))
 
--- sumOver all the vertices but the root
+-- the sum over all the vertices but the root
 abbrev pub all : ℕ → ℕ → (ℕ → ℕ) → ℕ
 all N k f = sumOver (down 0 N) f + sumOver (down N k) f
 
-pub vertex : (N k v : ℕ) → 1 ≤ v → v ≤ N + k → count v (down 0 N) + count v (down N k) ≡ 1
+vertex : (N k v : ℕ) → 1 ≤ v → v ≤ N + k → count v (down 0 N) + count v (down N k) ≡ 1
 vertex N k v h g = go (decLe v N)
   where
     go : Dec (v ≤ N) → count v (down 0 N) + count v (down N k) ≡ 1
@@ -124,9 +124,6 @@ forest-start N w p h = record {
     low x q = h x (omega (arith, down-in 0 N x q))
 
 module _ (N k : ℕ) (A : List ℕ) (w p : ℕ → ℕ) (x y : ℕ) (w′ p′ : ℕ → ℕ) (F : Forest N k A w p) (c : Pick N k w p x y) (j : Joined N k x y w p w′ p′) where
-  b : ℕ
-  b = N + suc k
-
   pub rest : List ℕ
   rest = without y (without x A)
 

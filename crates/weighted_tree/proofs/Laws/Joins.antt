@@ -81,7 +81,7 @@ module _ (n k x y : ℕ) (J : Joining) (n-apart : x ≢ y) (x-in : (1 ≤ x) × 
 
 module _ (n : ℕ) (w : List ℕ) (k : ℕ) (J : Joining) (h : Held n w k J) where
   -- any two that may be joined
-  pub held-join : (x y : ℕ) → suc k < n → Pick n k (weightOf (J .totals)) (parentOf (J .parents)) x y → Held n w (suc k) (joinTwo J (n + suc k) x y)
+  held-join : (x y : ℕ) → suc k < n → Pick n k (weightOf (J .totals)) (parentOf (J .parents)) x y → Held n w (suc k) (joinTwo J (n + suc k) x y)
   held-join x y more c = record {
     totals-long = rw length-set (h .totals-long);
     parents-long = rw (length-set, length-set) (h .parents-long);
@@ -119,7 +119,7 @@ module _ (n : ℕ) (w : List ℕ) (k : ℕ) (J : Joining) (h : Held n w k J) whe
         sumOver-cong (down 0 n) (weightOf (J .totals)) (weightOf w) (λ s q. h .sinks s (omega (arith, down-in 0 n s q)) (omega (arith, down-in 0 n s q))),
       )
 
-  pub held-next : suc k < n → Held n w (suc k) (joinNext n k J)
+  held-next : suc k < n → Held n w (suc k) (joinNext n k J)
   held-next more = held-join _ _ more (pick n k (h .active) J (h .forest) more)
 
 module _ (n : ℕ) (w : List ℕ) (n1 : 1 ≤ n) where

@@ -1,5 +1,5 @@
 -- The sum of weight × delay of the tree by switching weights is the least: request 7 as specs/WeightedDelay states it, for every net with a sink and whatever weights. Assumes nothing.
-use Prim.Native.Nat.{ℕ, suc, _+_, _*_, _-_, _≤_}
+use Prim.Native.Nat.{ℕ, _+_, _*_, _-_, _≤_}
 use mathlib.Core.Path.{_≡_, refl, ap, ap₂, _∙_, subst}
 use mathlib.Core.Logic.{_≢_}
 use mathlib.Core.List.{List, [], _∷_}

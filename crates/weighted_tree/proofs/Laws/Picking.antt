@@ -4,17 +4,15 @@ use mathlib.Core.Bool.{Bool, true, false, cond}
 use mathlib.Core.Logic.{_≢_, _⊎_, inl, inr}
 use mathlib.Core.List.{List, [], _∷_}
 use Prim.Native.Nat.{ℕ, zero, suc, _+_, _*_, _-_, _≤_, _<_, zero-le}
-use native.Mathlib.Nat.{zero-mul}
 use native.Mathlib.Decide.{decLe}
 use native.Mathlib.Omega.{arith}
 use lib.ListN.{length, getD}
-use lib.Dec.{T, eqb, ltb, eqb→eq, eqb-refl}
+use lib.Dec.{ltb}
 use lib.IntN.{ℤ, pos}
 use lib.Signed.{_≤ℤ_}
 use Rattle.quantities.specs.Inner.Linear.{whole}
 use Rattle.tree.specs.Lists.{delta, count, range}
 use Rattle.tree.specs.Tree.{parentOf}
-use Rattle.tree.specs.Settling.{childrenIn}
 use Rattle.tree.specs.Weights.{weightOf}
 use Rattle.tree.proofs.Laws.Lists.Sums.{equal?, delta-self, delta-ne, delta-eq, ones-length, down-low, down-out, down-once}
 use Rattle.tree.proofs.Laws.Trees.LegalTrees.{bag}
@@ -26,9 +24,9 @@ use Rattle.weighted_tree.proofs.Laws.Forests.{Forest, Pick}
 
 -- ---- the free vertices
 
--- where the forest has m vertices, its active ones are the free ones
+-- they are the active ones of the forest
 module _ (N k : ℕ) (A P : List ℕ) (w : ℕ → ℕ) (F : Forest N k A w (parentOf P)) where
-  pub free-count : (v : ℕ) → count v (free (N + k) P) ≡ count v A
+  free-count : (v : ℕ) → count v (free (N + k) P) ≡ count v A
   free-count v = times-child (parentOf P) 0 (range 1 (N + k)) v ∙ go v (decLe v (N + k))
     where
       out : (v : ℕ) → (v ≢ 0 → N + k < v) → count v A ≡ 0
@@ -46,7 +44,7 @@ module _ (N k : ℕ) (A P : List ℕ) (w : ℕ → ℕ) (F : Forest N k A w (par
   below : (v : ℕ) → count v A ≢ 0 → v < suc (N + k)
   below v q = omega (arith, F .range v q)
 
-  pub free-length : length (free (N + k) P) ≡ length A
+  free-length : length (free (N + k) P) ≡ length A
   free-length =
       sym (ones-length (free (N + k) P))
       ∙ bag (suc (N + k)) (free (N + k) P) A (λ x. 1) (λ v q. below v (omega (arith, free-count v))) below (λ v l. free-count v)

@@ -11,7 +11,6 @@ use lib.IntN.{ℤ}
 use lib.Signed.{_≤ℤ_}
 use Rattle.tree.specs.Lists.{count}
 use Rattle.tree.specs.Net.{Net, size, ownSlack}
-use Rattle.tree.specs.Tree.{parentOf}
 use Rattle.tree.specs.Planning.{TieRule, order, split, chosen, insertAll, parentsAfter}
 use Rattle.tree.specs.SmallestSlack.{nextSink}
 use Rattle.tree.proofs.Laws.Lists.Sums.{delta-self, delta-ne, equal?, down-in, down-once}
