@@ -6,6 +6,7 @@ use mathlib.Core.List.{List, [], _∷_}
 use Prim.Native.Nat.{ℕ, zero, suc, _+_, _*_, _-_, _≤_, _<_, zero-le}
 use native.Mathlib.Decide.{decLe}
 use native.Mathlib.Omega.{arith}
+use borrow.Author.Tests.{ltb-true, ltb-false}
 use lib.ListN.{length, getD}
 use lib.Dec.{ltb}
 use lib.IntN.{ℤ, pos}
@@ -19,7 +20,6 @@ use Rattle.tree.proofs.Laws.Trees.LegalTrees.{bag}
 use Rattle.tree.proofs.Laws.Planning.BeforeSettling.{Rising, sort-count, sort-length, sort-rising}
 use Rattle.tree.proofs.Laws.Settling.SlackKept.{range-count, times-child}
 use Rattle.weighted_tree.specs.Joining.{lighter, free, Joining, waiting}
-use borrow.Author.Tests.{ltb-true, ltb-false}
 use Rattle.weighted_tree.proofs.Laws.Forests.{Forest, Pick}
 
 -- ---- the free vertices
