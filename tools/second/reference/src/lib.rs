@@ -1,4 +1,4 @@
-//! Both plans and judge, written twice from the order alone, and the first plan
+//! All three plans and judge, written twice from the order alone, and the first plan
 //! once more in request 3's order of work.
 //!
 //! `slow` does what the order says word by word: it builds and measures every
@@ -7,7 +7,9 @@
 //! else it shares with `slow`.
 //! `short` is the second plan, the short tree, word by word; `spanning` has the
 //! trees that are no shorter.
-//! `plain` is what a competent engineer would write, both plans and judge; it
+//! `weighted` is the third plan word by word; `rivals` has the trees whose sum of
+//! weight × delay is no less.
+//! `plain` is what a competent engineer would write, all plans and judge; it
 //! shares nothing with these but the form of the answer.
 
 pub mod answer;
@@ -17,11 +19,13 @@ pub mod kraft;
 pub mod listing;
 pub mod net;
 pub mod plain;
+pub mod rivals;
 pub mod short;
 pub mod slow;
 pub mod spanning;
 pub mod spelling;
 pub mod tree;
+pub mod weighted;
 
 #[cfg(test)]
 mod marked_tests;
@@ -32,6 +36,10 @@ mod random_tests;
 #[cfg(test)]
 mod range_tests;
 #[cfg(test)]
+mod rivals_tests;
+#[cfg(test)]
 mod short_tests;
 #[cfg(test)]
 mod spanning_tests;
+#[cfg(test)]
+mod weighted_tests;

@@ -12,7 +12,7 @@ node=4,0,4,0\nnode=5,4,4,0\n";
 pub(crate) fn a(need: &str) -> String {
     format!(
         "root=0,0\nbranch=20\nwire=2,2\nneed={need}\nsinks=3\n\
-         sink=10,0,100\nsink=4,6,60\nsink=10,10,70\n"
+         sink=10,0,100,1\nsink=4,6,60,1\nsink=10,10,70,1\n"
     )
 }
 
@@ -95,7 +95,7 @@ fn gathered_for_net_a() {
 fn three_sinks_at_the_root() {
     let net = format!(
         "root=0,0\nbranch=20\nwire=2,2\nneed=-40\nsinks=3\n{}",
-        "sink=0,0,0\n".repeat(3)
+        "sink=0,0,0,1\n".repeat(3)
     );
     let (answer, text) = plan(&net);
     assert_eq!((answer.slack, answer.wire), (-40, 0));
@@ -107,7 +107,7 @@ fn three_sinks_at_the_root() {
 #[test]
 fn a_branch_point_is_nearest() {
     let net = "root=0,0\nbranch=20\nwire=2,2\nneed=-40\nsinks=3\n\
-               sink=10,0,20\nsink=10,0,20\nsink=1,0,2\n";
+               sink=10,0,20,1\nsink=10,0,20,1\nsink=1,0,2,1\n";
     let (answer, text) = plan(net);
     assert_eq!((answer.slack, answer.wire), (-40, 10));
     assert!(text.ends_with("leaf=1,4\nleaf=2,4\nleaf=3,5\nnode=4,5,10,0\nnode=5,0,1,0\n"));
@@ -119,7 +119,7 @@ fn a_branch_point_is_nearest() {
 #[test]
 fn the_nearer_of_two_sinks() {
     let net = "root=0,0\nbranch=20\nwire=2,2\nneed=-40\nsinks=3\n\
-               sink=10,0,20\nsink=0,10,20\nsink=1,10,22\n";
+               sink=10,0,20,1\nsink=0,10,20,1\nsink=1,10,22,1\n";
     let (answer, text) = plan(net);
     assert_eq!((answer.slack, answer.wire), (-40, 21));
     assert!(text.ends_with("leaf=1,4\nleaf=2,5\nleaf=3,5\nnode=4,0,0,0\nnode=5,4,0,10\n"));
@@ -129,7 +129,7 @@ fn the_nearer_of_two_sinks() {
 #[test]
 fn a_sink_as_near_as_the_root() {
     let net = "root=0,0\nbranch=20\nwire=2,2\nneed=-40\nsinks=3\n\
-               sink=-10,0,20\nsink=4,4,16\nsink=6,-1,14\n";
+               sink=-10,0,20,1\nsink=4,4,16,1\nsink=6,-1,14,1\n";
     let (answer, text) = plan(net);
     assert_eq!((answer.slack, answer.wire), (-40, 21));
     assert!(text.ends_with("leaf=1,4\nleaf=2,5\nleaf=3,5\nnode=4,0,0,0\nnode=5,4,4,0\n"));
@@ -138,7 +138,7 @@ fn a_sink_as_near_as_the_root() {
 #[test]
 fn one_sink() {
     for c in [1, 20, 1_000_000_000] {
-        let net = format!("root=0,0\nbranch={c}\nwire=2,2\nneed=-4\nsinks=1\nsink=3,4,10\n");
+        let net = format!("root=0,0\nbranch={c}\nwire=2,2\nneed=-4\nsinks=1\nsink=3,4,10,1\n");
         let (answer, text) = plan(&net);
         assert_eq!((answer.slack, answer.wire), (-4, 7));
         assert_eq!(judge(&net, &text).last, -4);
@@ -182,7 +182,7 @@ fn refused_nets() {
 
 /// A net of one sink, its root and its sink so spelt.
 pub(crate) fn one(root: &str, sink: &str) -> String {
-    format!("root={root}\nbranch=20\nwire=2,2\nneed=-2000000000000000\nsinks=1\nsink={sink},0\n")
+    format!("root={root}\nbranch=20\nwire=2,2\nneed=-2000000000000000\nsinks=1\nsink={sink},0,1\n")
 }
 
 /// What plan says, and judge of the plan's listing or of none: the same.
@@ -247,8 +247,8 @@ fn a_far_pin_and_another_fault() {
     assert_eq!(with("=10,0,", "=10,-0,"), (2, 1, 6));
     assert_eq!(with("=10,0,", "=50000000,0,"), (13, 1, 6));
     assert_eq!(with("=10,10,70", "=x"), (13, 1, 7));
-    assert_eq!(with(",70\n", ",70\nx"), (13, 1, 7));
-    assert_eq!(with(",70\n", &"x".repeat(32_768)), (1, 1, 0));
+    assert_eq!(with(",70,1\n", ",70,1\nx"), (13, 1, 7));
+    assert_eq!(with(",70,1\n", &"x".repeat(32_768)), (1, 1, 0));
     assert_eq!(refusal(slow::plan(net.as_bytes(), &mut [])), (13, 1, 7));
     assert_eq!(refusal(plain::plan(net.as_bytes(), &mut [])), (13, 1, 7));
 }
@@ -256,7 +256,7 @@ fn a_far_pin_and_another_fault() {
 #[test]
 fn full_net() {
     let head = "root=0,0\nbranch=20\nwire=2,2\nneed=-2000000000000000\nsinks=512\n";
-    let net = format!("{head}{}", "sink=1,1,5\n".repeat(512));
+    let net = format!("{head}{}", "sink=1,1,5,1\n".repeat(512));
     let mut out = vec![0; 32_768];
     let answer = plain::plan(net.as_bytes(), &mut out);
     assert_eq!((answer.number, answer.slack), (0, 5 - 4 - 9 * 20));

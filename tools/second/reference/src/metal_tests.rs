@@ -8,7 +8,7 @@ use crate::net::Net;
 fn net(factors: &str) -> String {
     format!(
         "root=0,0\nbranch=20\nwire={factors}\nneed=0\nsinks=3\n\
-         sink=10,0,100\nsink=4,6,110\nsink=10,10,150\n"
+         sink=10,0,100,1\nsink=4,6,110,1\nsink=10,10,150,1\n"
     )
 }
 
@@ -59,7 +59,7 @@ fn both_factors_decide() {
 #[test]
 fn nearness_stays_plain() {
     let net = "root=0,0\nbranch=20\nwire=2,6\nneed=-40\nsinks=3\n\
-               sink=10,4,44\nsink=4,0,8\nsink=4,4,32\n";
+               sink=10,4,44,1\nsink=4,0,8,1\nsink=4,4,32,1\n";
     assert_eq!(own_slacks(net), [0, 0, 0]);
     let (answer, text) = plan(net);
     assert_eq!((answer.slack, answer.wire), (-40, 18));
@@ -70,7 +70,7 @@ fn nearness_stays_plain() {
 /// 14. The wire is the edges' nanometres, 10 + 20 + 8.
 #[test]
 fn path_slack_has_both_factors() {
-    let net = "root=0,0\nbranch=20\nwire=2,6\nneed=0\nsinks=2\nsink=10,0,100\nsink=4,6,110\n";
+    let net = "root=0,0\nbranch=20\nwire=2,6\nneed=0\nsinks=2\nsink=10,0,100,1\nsink=4,6,110,1\n";
     let listing = "slack=-60\nwire=38\nsinks=2\nleaf=1,3\nleaf=2,3\nnode=3,0,0,10\n";
     assert_eq!(judge(net, listing), Answer::done(-60, 38, 46));
     let weighed = listing.replace("wire=38", "wire=172");

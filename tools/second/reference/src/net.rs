@@ -15,11 +15,14 @@ pub const WIRE: (i64, i64) = (1, 10_000);
 pub const NEED: (i64, i64) = (-2_000_000_000_000_000, 2_000_000_000_000_000);
 pub const SINKS: (i64, i64) = (1, 512);
 pub const ARRIVAL: (i64, i64) = (-1_000_000_000_000_000, 1_000_000_000_000_000);
+/// 02, request 7: a sink's weight, "1 to 1,000".
+pub const WEIGHT: (i64, i64) = (1, 1_000);
 
 #[derive(Clone, Copy, Debug, PartialEq, Eq)]
 pub struct Sink {
     pub at: Point,
     pub arrival: i64,
+    pub weight: i64,
 }
 
 /// Attoseconds that a nanometre costs, in each of the metal directions.
@@ -97,7 +100,12 @@ impl Net {
         );
         text += &format!("sinks={}\n", self.sinks.len());
         for sink in &self.sinks {
-            text += &format!("sink={},{},{}\n", sink.at.x, sink.at.y, sink.arrival);
+            let Sink {
+                at,
+                arrival,
+                weight,
+            } = sink;
+            text += &format!("sink={},{},{arrival},{weight}\n", at.x, at.y);
         }
         text.into_bytes()
     }
@@ -140,15 +148,22 @@ fn read_factors(lines: &mut Lines) -> Result<Factors, Refusal> {
 /// 02, request 2: a sink farther from the root than the limit "is refused in
 /// every call that reads a net", by "13, text 1, the sink's line, right after 3
 /// on that line". Request 5: "The pin limit of request 2 is 40,000,000".
+/// Request 7: "Each sink line gains a fourth number, its weight"; "lines without
+/// it are misspelt under 2".
 fn read_sink(lines: &mut Lines, root: Point) -> Result<Sink, Refusal> {
-    let numbers = lines.due("sink=", 3)?;
+    let numbers = lines.due("sink=", 4)?;
     let x = lines.value(numbers[0], -COORDINATE, COORDINATE)?;
     let y = lines.value(numbers[1], -COORDINATE, COORDINATE)?;
     let arrival = lines.value(numbers[2], ARRIVAL.0, ARRIVAL.1)?;
+    let weight = lines.value(numbers[3], WEIGHT.0, WEIGHT.1)?;
     let at = Point::new(x, y);
     if root.distance(at) > PIN_LIMIT as i128 {
         return Err(lines.refuse(13));
     }
     lines.step();
-    Ok(Sink { at, arrival })
+    Ok(Sink {
+        at,
+        arrival,
+        weight,
+    })
 }

@@ -38,6 +38,7 @@ fn random_net(r: &mut Random, spread: i64, pin: impl Fn(&mut Random, Point) -> P
         .map(|_| Sink {
             at: pin(r, root),
             arrival: r.below(20 * spread) - 5 * spread,
+            weight: 1,
         })
         .collect();
     Net {
@@ -108,6 +109,22 @@ pub(crate) fn net_of_round(r: &mut Random, round: usize) -> Net {
     let spread = [2, 6, 30, 1000, 99_000, 99_000_000][round % 6];
     let reach = 40_000_000.min(2 * spread);
     random_net(r, spread, |r, root| near_pin(r, root, reach))
+}
+
+/// Such a net with weights: any, few, all alike, at the ends, or rising so that
+/// trees get deep.
+pub(crate) fn weighed(r: &mut Random, round: usize) -> Net {
+    let mut net = net_of_round(r, round);
+    let most = [1, 2, 4, 12, 1000][r.below(5) as usize];
+    let how = r.below(4);
+    for (i, sink) in net.sinks.iter_mut().enumerate() {
+        sink.weight = match how {
+            0 => [1, 1000][r.below(2) as usize],
+            1 => 1 << i.min(9),
+            _ => 1 + r.below(most),
+        };
+    }
+    net
 }
 
 #[test]

@@ -10,7 +10,7 @@ use crate::tree::Point;
 fn net(root: &str, branch: &str, need: &str, arrival: &str) -> String {
     format!(
         "root={root}\nbranch={branch}\nwire=10000,10000\nneed={need}\nsinks=1\n\
-         sink={root},{arrival}\n"
+         sink={root},{arrival},1\n"
     )
 }
 
@@ -44,7 +44,7 @@ fn both_ends_of_each_range_of_a_net() {
 
 /// What line the listing of two sinks is refused on, and by which number.
 fn listed(slack: &str, wire: &str, at: &str) -> (u8, usize) {
-    let net = "root=0,0\nbranch=1\nwire=1,1\nneed=0\nsinks=2\nsink=0,0,9\nsink=0,0,9\n";
+    let net = "root=0,0\nbranch=1\nwire=1,1\nneed=0\nsinks=2\nsink=0,0,9,1\nsink=0,0,9,1\n";
     let listing =
         format!("slack={slack}\nwire={wire}\nsinks=2\nleaf=1,3\nleaf=2,3\nnode=3,0,{at}\n");
     let answer = judge(net, &listing);
@@ -90,6 +90,7 @@ fn times(net: &Net, factor: i64) -> Net {
     let sink = |s: &Sink| Sink {
         at: point(s.at),
         arrival: s.arrival * factor,
+        ..*s
     };
     Net {
         root: point(net.root),

@@ -37,7 +37,7 @@ fn short_tree(net: &str) -> String {
 
 /// A net with branch points that cost 20, wire that costs 2, and no hurry.
 fn net(sinks: &[&str]) -> String {
-    let lines: String = sinks.iter().map(|at| format!("sink={at},0\n")).collect();
+    let lines: String = sinks.iter().map(|at| format!("sink={at},0,1\n")).collect();
     let n = sinks.len();
     format!("root=0,0\nbranch=20\nwire=2,2\nneed=0\nsinks={n}\n{lines}")
 }
@@ -74,7 +74,7 @@ fn three_sinks_at_the_root() {
 #[test]
 fn one_sink() {
     for need in ["-4", "-3"] {
-        let net = format!("root=0,0\nbranch=20\nwire=2,2\nneed={need}\nsinks=1\nsink=3,4,10\n");
+        let net = format!("root=0,0\nbranch=20\nwire=2,2\nneed={need}\nsinks=1\nsink=3,4,10,1\n");
         assert_eq!(short_tree(&net), "slack=-4\nwire=7\nsinks=1\nleaf=1,0\n");
     }
 }
@@ -140,7 +140,7 @@ fn the_median_of_the_edges_ends() {
 #[test]
 fn slack_by_the_detour() {
     let net = "root=0,0\nbranch=1\nwire=1,5\nneed=0\nsinks=3\n\
-               sink=4,0,100\nsink=4,6,100\nsink=3,7,100\n";
+               sink=4,0,100,1\nsink=4,6,100,1\nsink=3,7,100,1\n";
     let text = short_tree(net);
     assert!(text.starts_with("slack=58\nwire=12\n"));
     assert!(text.ends_with("leaf=1,4\nleaf=2,5\nleaf=3,5\nnode=4,0,4,0\nnode=5,4,4,6\n"));

@@ -1,12 +1,13 @@
-//! Both plans and judge as a competent engineer would write them, quadratic in
-//! the sinks, the short tree on most nets: the reference for large nets and the
-//! baseline of the benchmark.
+//! All three plans and judge as a competent engineer would write them, quadratic
+//! in the sinks, the short tree on most nets, the third plan less: the reference
+//! for large nets and the baseline of the benchmark.
 
 mod grow;
 mod read;
 mod short;
 mod text;
 mod tree;
+mod weighted;
 
 use crate::answer::{Answer, Refusal};
 use read::Point;
@@ -66,6 +67,19 @@ fn try_plan_short(
     let net = read::net(net)?;
     let short::Grown { parent, points } = grow(&net);
     let order = tree::top_down(net.sinks(), &parent).expect("a grown tree is legal");
+    let slack = tree::worst_slack(&net, &parent, &points, &order);
+    write(slack, &parent, &points, out)
+}
+
+/// The third plan.
+pub fn plan_weighted(net: &[u8], out: &mut [u8]) -> Answer {
+    Answer::of(try_plan_weighted(net, out))
+}
+
+fn try_plan_weighted(net: &[u8], out: &mut [u8]) -> Result<(i64, u64, i64), Refusal> {
+    let net = read::net(net)?;
+    let weighted::Joined { parent, points } = weighted::join(&net);
+    let order = weighted::top_down(net.sinks());
     let slack = tree::worst_slack(&net, &parent, &points, &order);
     write(slack, &parent, &points, out)
 }

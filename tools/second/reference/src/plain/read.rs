@@ -9,9 +9,11 @@ pub struct Net {
     pub branch: i64,
     pub wire: Factors,
     pub need: i64,
-    /// Root first, then the sinks; so are the arrivals, the root's unused.
+    /// Root first, then the sinks; so are the arrivals and the weights, the
+    /// root's unused.
     pub points: Vec<Point>,
     pub arrivals: Vec<i64>,
+    pub weights: Vec<i64>,
 }
 
 /// Attoseconds per nanometre across and upward.
@@ -148,12 +150,15 @@ pub fn net(bytes: &[u8]) -> Read<Net> {
     let n = c.single(b"sinks=", 1, 512)? as usize;
     let mut points = Vec::with_capacity(2 * n);
     let mut arrivals = Vec::with_capacity(n + 1);
+    let mut weights = Vec::with_capacity(n + 1);
     points.push(root);
     arrivals.push(0);
+    weights.push(0);
     for _ in 0..n {
-        let (at, arrival) = sink(&mut c, root)?;
+        let (at, arrival, weight) = sink(&mut c, root)?;
         points.push(at);
         arrivals.push(arrival);
+        weights.push(weight);
         c.line += 1;
     }
     c.end()?;
@@ -163,6 +168,7 @@ pub fn net(bytes: &[u8]) -> Read<Net> {
         need,
         points,
         arrivals,
+        weights,
     })
 }
 
@@ -178,15 +184,18 @@ fn factors(c: &mut Cursor) -> Read<Factors> {
     })
 }
 
-fn sink(c: &mut Cursor, root: Point) -> Read<(Point, i64)> {
+/// Where it stands, its required arrival, its weight.
+fn sink(c: &mut Cursor, root: Point) -> Read<(Point, i64, i64)> {
     c.key(b"sink=")?;
-    let (x, y, a) = (c.number(b',')?, c.number(b',')?, c.number(b'\n')?);
+    let (x, y) = (c.number(b',')?, c.number(b',')?);
+    let (a, w) = (c.number(b',')?, c.number(b'\n')?);
     let at = (c.coordinate(x)?, c.coordinate(y)?);
     let arrival = c.within(a, -1_000_000_000_000_000, 1_000_000_000_000_000)?;
+    let weight = c.within(w, 1, 1_000)?;
     if distance(root, at) > FARTHEST {
         return c.fail(13);
     }
-    Ok((at, arrival))
+    Ok((at, arrival, weight))
 }
 
 pub fn listing(bytes: &[u8], net: &Net) -> Read<Listing> {

@@ -87,6 +87,10 @@ fn median(a: i64, b: i64, c: i64) -> i64 {
     a.min(b).max(a.max(b).min(c))
 }
 
+pub fn median_of(a: Point, b: Point, c: Point) -> Point {
+    (median(a.0, b.0, c.0), median(a.1, b.1, c.1))
+}
+
 /// Positions of all vertices, each branch point settled after its children.
 pub fn settle(net: &Net, parent: &[usize]) -> Vec<Point> {
     let n = net.sinks();
@@ -100,9 +104,7 @@ pub fn settle(net: &Net, parent: &[usize]) -> Vec<Point> {
         let (at, p) = (points[v], parent[v]);
         match first[p] {
             None => first[p] = Some(at),
-            Some(other) => {
-                points[p] = (median(root.0, at.0, other.0), median(root.1, at.1, other.1))
-            }
+            Some(other) => points[p] = median_of(root, at, other),
         }
     }
     points
