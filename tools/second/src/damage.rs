@@ -78,10 +78,11 @@ pub fn across(value: &[u8]) -> Vec<Vec<u8>> {
 
 /// Each end of each range, and its neighbours, whatever the field.
 pub fn limits() -> Vec<Vec<u8>> {
-    let ends: [i128; 14] = [
+    let ends: [i128; 15] = [
         0,
         1,
         512,
+        1_000,
         10_000,
         100_000_000,
         -100_000_000,
@@ -174,7 +175,7 @@ pub fn whole(text: &[u8]) -> Vec<Vec<u8>> {
         &b"\n"[..],
         b" ",
         b"\0",
-        b"sink=0,0,0\n",
+        b"sink=0,0,0,1\n",
         b"x",
         b"leaf=1,0\n",
         b"\n\n",

@@ -23,3 +23,5 @@ pub mod stored;
 pub mod streets;
 pub mod timing;
 pub mod trees;
+pub mod weighted;
+pub mod weights;

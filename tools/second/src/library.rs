@@ -1,6 +1,7 @@
 //! The library's calls in the form of the reference's answers.
 
-use repeater_tree::{judge_figures, plan_figures, plan_short_figures, JudgeFigures, PlanFigures};
+use repeater_tree::{judge_figures, plan_figures, plan_short_figures, plan_weighted_figures};
+use repeater_tree::{JudgeFigures, PlanFigures};
 use second_reference::answer::Answer;
 
 /// The first plan.
@@ -11,6 +12,11 @@ pub fn plan(net: &[u8], out: &mut [u8]) -> Answer {
 /// The short tree.
 pub fn plan_short(net: &[u8], out: &mut [u8]) -> Answer {
     planned(plan_short_figures, net, out)
+}
+
+/// The third plan.
+pub fn plan_weighted(net: &[u8], out: &mut [u8]) -> Answer {
+    planned(plan_weighted_figures, net, out)
 }
 
 /// The figures are preset, so that one which the library leaves unwritten

@@ -6,6 +6,7 @@ use crate::pins;
 use crate::random::Random;
 use crate::ranges::{self, Ranges};
 use crate::shapes::Make;
+use crate::weights;
 use second_reference::net::{Factors, Net, WIRE};
 use second_reference::tree::Point;
 
@@ -56,11 +57,12 @@ pub fn drawn(r: &mut Random, make: Make, n: usize) -> Net {
     drawn_in(r, ranges, make, n)
 }
 
-/// A net of the shape, mostly with other factors than the shape draws, which
-/// are equal.
+/// A net of the shape, mostly with other factors and weights than the shape
+/// draws, which are equal.
 pub fn drawn_in(r: &mut Random, ranges: &Ranges, make: Make, n: usize) -> Net {
     let net = make(r, ranges, n);
-    any(r, ranges, net)
+    let net = any(r, ranges, net);
+    weights::any(r, net)
 }
 
 /// A net of the shape with factors that differ.

@@ -1,12 +1,13 @@
 //! Seeded nets of every character, all pins within the limit. Each shape has
-//! equal factors; `metals` gives it others.
+//! equal factors and weights of 1; `metals` and `weights` give it others.
 
 use crate::metals;
 use crate::near;
 use crate::pins::{self, point};
 use crate::random::Random;
 use crate::ranges::{self, Ranges};
-use second_reference::net::{Factors, Net, Sink, SINKS, WIRE};
+use crate::weights;
+use second_reference::net::{Factors, Net, Sink, SINKS, WEIGHT, WIRE};
 use second_reference::tree::Point;
 
 /// A net as chips have them: pins within a few millimetres, times to match.
@@ -25,6 +26,7 @@ pub fn common(r: &mut Random, ranges: &Ranges, n: usize) -> Net {
         .map(|_| Sink {
             at: pins::about(r, ranges, root, reach),
             arrival: r.between(-late, 3 * late),
+            weight: WEIGHT.0,
         })
         .collect();
     Net {
@@ -62,6 +64,7 @@ pub fn of_slacks(
         .map(|(at, own)| Sink {
             at,
             arrival: own + wire.delay(root, at) as i64,
+            weight: WEIGHT.0,
         })
         .collect();
     Net {
@@ -125,6 +128,7 @@ fn extreme_sink(r: &mut Random, ranges: &Ranges, root: Point) -> Sink {
     Sink {
         at: Point::new(x, y),
         arrival: end(r, ranges.arrival.0, ranges.arrival.1),
+        weight: WEIGHT.0,
     }
 }
 
@@ -149,6 +153,7 @@ pub fn longest(ranges: &Ranges) -> Net {
     let sink = Sink {
         at: corner,
         arrival: ranges.arrival.0,
+        weight: WEIGHT.1,
     };
     Net {
         root: corner,
@@ -211,11 +216,12 @@ pub fn shuffle<T>(r: &mut Random, list: &mut [T]) {
     }
 }
 
-/// Any of these, mostly with factors that differ.
+/// Any of these, mostly with factors and weights that differ.
 pub fn any(r: &mut Random, n: usize) -> Net {
     let ranges = ranges::any(r);
     let net = even(r, ranges, n);
-    metals::any(r, ranges, net)
+    let net = metals::any(r, ranges, net);
+    weights::any(r, net)
 }
 
 fn even(r: &mut Random, ranges: &Ranges, n: usize) -> Net {

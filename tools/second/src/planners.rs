@@ -2,7 +2,7 @@
 
 use crate::library;
 use second_reference::answer::Answer;
-use second_reference::{gathered, plain, short, slow};
+use second_reference::{gathered, plain, short, slow, weighted};
 
 pub type Planner = (&'static str, fn(&[u8], &mut [u8]) -> Answer);
 
@@ -17,3 +17,8 @@ pub const SHORT_LIBRARY: Planner = ("library", library::plan_short);
 pub const SHORT_PLAIN: Planner = ("plain", plain::plan_short);
 /// For nets of at most `short::MOST_SINKS` sinks, and a few others.
 pub const SHORT_SLOW: Planner = ("slow", short::plan);
+
+/// Of the third plan.
+pub const WEIGHTED_LIBRARY: Planner = ("library", library::plan_weighted);
+pub const WEIGHTED_PLAIN: Planner = ("plain", plain::plan_weighted);
+pub const WEIGHTED_SLOW: Planner = ("slow", weighted::plan);

@@ -16,6 +16,7 @@ use std::sync::atomic::{AtomicUsize, Ordering};
 /// The programs that plan.
 pub const PLAN: &str = "plan";
 pub const PLAN_SHORT: &str = "plan_short";
+pub const PLAN_WEIGHTED: &str = "plan_weighted";
 
 const CASES: u64 = 60;
 
@@ -90,6 +91,7 @@ pub fn compare(s: &mut Session, programs: &Programs, seed: u64) -> Result<()> {
         for (kind, program, planner) in [
             ("program-plan", PLAN, planners::PLAIN),
             ("program-short", PLAN_SHORT, planners::SHORT_PLAIN),
+            ("program-weighted", PLAN_WEIGHTED, planners::WEIGHTED_PLAIN),
         ] {
             s.start(kind, seed);
             s.count().runs += 1;

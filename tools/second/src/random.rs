@@ -15,6 +15,12 @@ impl Random {
         Random(seed)
     }
 
+    /// One beside this, which is left as it was: what it draws changes nothing
+    /// that is drawn later.
+    pub fn beside(&self, name: &str) -> Random {
+        Random::named(self.0, name)
+    }
+
     pub fn draw(&mut self) -> u64 {
         self.0 = self.0.wrapping_add(0x9e37_79b9_7f4a_7c15);
         let mut z = self.0;

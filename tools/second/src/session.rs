@@ -6,6 +6,7 @@ use crate::library;
 use crate::planners::{Planner, GATHERED, PLAIN, SLOW};
 use crate::short::Shorts;
 use crate::trees;
+use crate::weighted::Weighted;
 use second_reference::answer::Answer;
 use second_reference::gathered::Checked;
 use second_reference::listing::Listing;
@@ -21,13 +22,15 @@ const LAST_NUMBER: u8 = 13;
 /// Gathering takes long on large nets: one case in so many has them.
 const LARGE_GATHERED: u64 = 8;
 
-/// What was compared. Only the first three run the library.
+/// What was compared. Only the first four run the library.
 #[derive(Clone, Copy, Debug, Default)]
 pub struct Counts {
     /// First plans.
     pub plans: u64,
     /// Short trees.
     pub shorts: u64,
+    /// Third plans.
+    pub weighted: u64,
     pub judgements: u64,
     /// Runs of the programs.
     pub runs: u64,
@@ -38,26 +41,31 @@ pub struct Counts {
     pub gathered: u64,
     /// Spanning trees that the tool measures itself, against the short tree.
     pub spanning: u64,
+    /// Trees that the tool measures itself, against the third plan's sum of
+    /// weight × delay.
+    pub heavier: u64,
     pub disagreements: u64,
 }
 
 impl Counts {
     pub fn calls(&self) -> u64 {
-        self.plans + self.shorts + self.judgements
+        self.plans + self.shorts + self.weighted + self.judgements
     }
 
     pub fn own(&self) -> u64 {
-        self.rivals + self.gathered + self.spanning
+        self.rivals + self.gathered + self.spanning + self.heavier
     }
 
     fn add(&mut self, other: &Counts) {
         self.plans += other.plans;
         self.shorts += other.shorts;
+        self.weighted += other.weighted;
         self.judgements += other.judgements;
         self.runs += other.runs;
         self.rivals += other.rivals;
         self.gathered += other.gathered;
         self.spanning += other.spanning;
+        self.heavier += other.heavier;
         self.disagreements += other.disagreements;
     }
 }
@@ -79,8 +87,9 @@ pub struct Session {
     seed: u64,
     /// By kind of case.
     pub counts: BTreeMap<&'static str, Counts>,
-    /// Answers by the refusal's number: of plan, of judge, of the short tree.
-    pub numbers: [[u64; LAST_NUMBER as usize + 1]; 3],
+    /// Answers by the refusal's number: of plan, of judge, of the short tree, of
+    /// the third plan.
+    pub numbers: [[u64; LAST_NUMBER as usize + 1]; 4],
     /// Plans in which an edge above a branch point was split.
     pub split_above_branch_point: u64,
     /// Plans of nets with a pin just at the limit, and at an end of the range.
@@ -94,6 +103,7 @@ pub struct Session {
     pub metals: Decided,
     pub pairs: Pairs,
     pub shorts: Shorts,
+    pub weighted: Weighted,
 }
 
 /// What a plan left in the output, beside its figures.

@@ -6,7 +6,7 @@ use crate::pins::{self, point};
 use crate::random::Random;
 use crate::ranges::Ranges;
 use crate::shapes::Make;
-use second_reference::net::{Factors, Net, Sink};
+use second_reference::net::{Factors, Net, Sink, WEIGHT};
 use second_reference::tree::Point;
 
 pub const STREETS: [(&str, Make); 7] = [
@@ -34,6 +34,7 @@ fn net(r: &mut Random, ranges: &Ranges, mut away: Vec<(i64, i64)>) -> Net {
         Sink {
             at: pins::offset(root, x, y),
             arrival: r.between(-late, 3 * late),
+            weight: WEIGHT.0,
         }
     });
     Net {

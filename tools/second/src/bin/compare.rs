@@ -90,21 +90,23 @@ fn nothing_ran(s: &Session) -> bool {
 /// The last line says what was compared, each count of its own.
 fn print_counts(s: &Session) {
     println!(
-        "{:>16} {:>9} {:>9} {:>9} {:>9} {:>9} {:>9}",
-        "kind of case", "plans", "short", "judged", "runs", "own", "disagree"
+        "{:>16} {:>9} {:>9} {:>9} {:>9} {:>9} {:>9} {:>9}",
+        "kind of case", "plans", "short", "weighted", "judged", "runs", "own", "disagree"
     );
     for (kind, counts) in &s.counts {
         println!(
-            "{kind:>16} {:>9} {:>9} {:>9} {:>9} {:>9} {:>9}",
+            "{kind:>16} {:>9} {:>9} {:>9} {:>9} {:>9} {:>9} {:>9}",
             counts.plans,
             counts.shorts,
+            counts.weighted,
             counts.judgements,
             counts.runs,
             counts.own(),
             counts.disagreements
         );
     }
-    for (call, numbers) in ["plan", "judge", "plan_short"].iter().zip(&s.numbers) {
+    let calls = ["plan", "judge", "plan_short", "plan_weighted"];
+    for (call, numbers) in calls.iter().zip(&s.numbers) {
         let last = numbers.len() - 1;
         println!("{call} answers by number, 0 to {last}: {numbers:?}");
     }
@@ -136,24 +138,38 @@ fn print_counts(s: &Session) {
         shorts.slow,
         shorts.unreachable
     );
+    let weighted = &s.weighted;
+    println!(
+        "third plans held to the sums of weight × delay of other trees: {}, {} of them below those \
+         of both other plans; {} held to the least of all, found otherwise; in {} vertices tied; {} \
+         of nets whose need is out of reach",
+        weighted.bounded, weighted.lighter, weighted.least, weighted.tied, weighted.unreachable
+    );
+    println!(
+        "pairs of nets alike but for weights: {}, {} of them with other third plans",
+        weighted.pairs, weighted.differing
+    );
     let total = s.total();
     println!(
         "measured by the tool itself: {} rival trees against the library's best; on {} nets \
          gathered numbers as defined, {} of vertices, {} of edges; {} of the plans made by \
-         gathering too; {} spanning trees against the short tree",
+         gathering too; {} spanning trees against the short tree; {} trees against the third \
+         plan's sum of weight × delay",
         total.rivals,
         total.gathered,
         s.gathered.vertices,
         s.gathered.edges,
         s.gathered_plans,
-        total.spanning
+        total.spanning,
+        total.heavier
     );
     println!(
-        "compared {} calls of the library ({} plans, {} short trees, {} judgements) and {} runs of \
-         the programs; {} disagreements",
+        "compared {} calls of the library ({} plans, {} short trees, {} third plans, {} judgements) \
+         and {} runs of the programs; {} disagreements",
         total.calls(),
         total.plans,
         total.shorts,
+        total.weighted,
         total.judgements,
         total.runs,
         total.disagreements

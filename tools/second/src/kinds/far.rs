@@ -26,7 +26,7 @@ pub fn refused(s: &mut Session, r: &mut Random, net: &[u8], number: u8, line: us
     }
 }
 
-fn expect_refusal(
+pub fn expect_refusal(
     s: &mut Session,
     answer: Answer,
     number: u8,
@@ -150,7 +150,7 @@ pub fn faults(s: &mut Session, r: &mut Random) {
             2 => 2,
             3 | 4 => 3,
             5 | 6 => k - 1,
-            _ => line_of((k - 7) / 3),
+            _ => line_of((k - 7) / 4),
         };
         for (by, number) in [(&b"-0"[..], 2), (b"9999999999999999", 3)] {
             let other = damage::replaced(&text, at.clone(), by);
@@ -167,7 +167,7 @@ pub fn faults(s: &mut Session, r: &mut Random) {
 
 /// Bytes behind the last line, up to the text's length and past it.
 fn behind(s: &mut Session, r: &mut Random, text: &[u8], far: usize) {
-    for tail in [&b"\n"[..], b"x", b"sink=0,0,0\n", text] {
+    for tail in [&b"\n"[..], b"x", b"sink=0,0,0,1\n", text] {
         refused(s, r, &[text, tail].concat(), 13, far);
     }
     let full = damage::of_length(r, text, NET_LENGTH).swap_remove(0);

@@ -2,12 +2,15 @@
 
 mod enumerated;
 mod far;
+mod further;
 mod listings;
 mod metals;
 mod planned;
 mod scaled;
 mod short;
+mod sink_line;
 mod spoilt;
+mod weighted;
 mod wire_line;
 
 use crate::random::Random;
@@ -83,4 +86,18 @@ pub const ALL: &[Kind] = &[
     kind("short-outputs", 2, short::outputs),
     kind("short-spoilt", 2, short::spoilt_nets),
     kind("short-cuts", 50, short::cuts),
+    kind("weighted-marked", 100, weighted::marked),
+    kind("weighted-random", 1, weighted::random),
+    kind("weighted-ties", 1, weighted::ties),
+    kind("weighted-deep", 1, weighted::deep),
+    kind("weighted-few", 2, weighted::few),
+    kind("weighted-large", 10, weighted::large),
+    kind("weighted-longest", 300, weighted::longest),
+    kind("weighted-need", 2, weighted::need),
+    kind("weighted-mirror", 2, weighted::mirrored),
+    kind("weighted-outputs", 2, weighted::outputs),
+    kind("weighted-spoilt", 2, weighted::spoilt_nets),
+    kind("weighted-cuts", 50, weighted::cuts),
+    kind("weights-ignored", 1, weighted::ignored),
+    kind("sink-line", 20, sink_line::all),
 ];

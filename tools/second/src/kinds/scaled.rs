@@ -85,6 +85,7 @@ fn quotient(net: &Net) -> Net {
         Sink {
             at: if root.distance(at) > limit { root } else { at },
             arrival: sink.arrival / THOUSAND,
+            ..*sink
         }
     };
     Net {

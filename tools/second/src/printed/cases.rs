@@ -10,7 +10,7 @@ use std::process::Stdio;
 
 /// The order's net A, and the listing of its plan.
 pub const A: &str =
-    "root=0,0\nbranch=20\nwire=2,2\nneed=0\nsinks=3\nsink=10,0,100\nsink=4,6,60\nsink=10,10,70\n";
+    "root=0,0\nbranch=20\nwire=2,2\nneed=0\nsinks=3\nsink=10,0,100,1\nsink=4,6,60,1\nsink=10,10,70,1\n";
 pub const LISTING: &str =
     "slack=0\nwire=32\nsinks=3\nleaf=1,5\nleaf=2,5\nleaf=3,4\nnode=4,0,4,0\nnode=5,4,4,0\n";
 
@@ -43,7 +43,7 @@ pub const PLANNERS: [Planner; 2] = [
 /// A's pins, later due, where a nanometre upward costs three times as much. Both
 /// plans are the same.
 const TWO_METALS: &str =
-    "root=0,0\nbranch=20\nwire=2,6\nneed=0\nsinks=3\nsink=10,0,100\nsink=4,6,110\nsink=10,10,150\n";
+    "root=0,0\nbranch=20\nwire=2,6\nneed=0\nsinks=3\nsink=10,0,100,1\nsink=4,6,110,1\nsink=10,10,150,1\n";
 const TWO_METALS_LISTING: &str =
     "slack=30\nwire=26\nsinks=3\nleaf=1,5\nleaf=2,4\nleaf=3,5\nnode=4,0,4,0\nnode=5,4,10,0\n";
 
