@@ -1,8 +1,8 @@
 //! printed --programs DIR [--reads FILE]
 //!
-//! Runs `DIR/plan` and `DIR/judge` and compares what they print on standard
-//! output and on standard error, byte for byte, also where a stream fails or
-//! comes in pieces; with FILE, the object of `reads.c`, also where a read is
+//! Runs the planning programs in DIR and `DIR/judge` and compares what they print
+//! on standard output and on standard error, byte for byte, also where a stream
+//! fails or comes in pieces; with FILE, the object of `reads.c`, also where a read is
 //! interrupted. Exits with 1 on any difference.
 
 use second_tool::printed::{check, Report};

@@ -74,7 +74,7 @@ fn main() -> ExitCode {
     println!(
         "stored nets: {} with {} sinks by library, plain, gathered{programs}, {} by slow too; {} are \
          multiples of others, {} ask for too much; {} short trees by library, plain{programs}, {} by \
-         slow too; {} differences",
+         slow too; {} third plans by library, plain, slow{programs}; {} differences",
         report.nets,
         report.sinks,
         report.slow,
@@ -82,6 +82,7 @@ fn main() -> ExitCode {
         report.unreachable,
         report.shorts,
         report.slow_shorts,
+        report.weighted,
         report.faults.len()
     );
     match report.faults.len() {

@@ -2,7 +2,7 @@
 //! lines and its table of refusals.
 
 use super::{run, Said};
-use crate::programs::{Programs, PLAN, PLAN_SHORT};
+use crate::programs::{Programs, PLAN, PLAN_SHORT, PLAN_WEIGHTED};
 use repeater_tree::{LISTING_LENGTH, NET_LENGTH};
 use std::fs;
 use std::io::{Result, Write};
@@ -18,34 +18,52 @@ pub const LISTING: &str =
 const SHORT: &str =
     "slack=-10\nwire=26\nsinks=3\nleaf=1,5\nleaf=2,4\nleaf=3,5\nnode=4,0,4,0\nnode=5,4,10,0\n";
 
+/// The listing of A's third plan.
+const WEIGHTED: &str =
+    "slack=0\nwire=32\nsinks=3\nleaf=1,4\nleaf=2,4\nleaf=3,5\nnode=4,5,4,0\nnode=5,0,4,0\n";
+
 /// A program that plans.
 pub struct Planner {
     pub program: &'static str,
     /// What it prints for A.
     pub listing: &'static str,
+    /// And for two metals.
+    two_metals: &'static str,
     /// The extension of its stored listings.
     pub stored: &'static str,
 }
 
-pub const PLANNERS: [Planner; 2] = [
+pub const PLANNERS: [Planner; 3] = [
     Planner {
         program: PLAN,
         listing: LISTING,
+        two_metals: TWO_METALS_LISTING,
         stored: "tree",
     },
     Planner {
         program: PLAN_SHORT,
         listing: SHORT,
+        two_metals: TWO_METALS_LISTING,
         stored: "short",
+    },
+    Planner {
+        program: PLAN_WEIGHTED,
+        listing: WEIGHTED,
+        two_metals: TWO_METALS_WEIGHTED,
+        stored: "weighted",
     },
 ];
 
-/// A's pins, later due, where a nanometre upward costs three times as much. Both
-/// plans are the same.
+/// A's pins, later due, where a nanometre upward costs three times as much. The
+/// first two plans are the same; by the weights the third joins the same pins,
+/// and the branch points have their numbers in order of joining.
 const TWO_METALS: &str =
-    "root=0,0\nbranch=20\nwire=2,6\nneed=0\nsinks=3\nsink=10,0,100,1\nsink=4,6,110,1\nsink=10,10,150,1\n";
+    "root=0,0\nbranch=20\nwire=2,6\nneed=0\nsinks=3\nsink=10,0,100,1\nsink=4,6,110,3\nsink=10,10,150,2\n";
 const TWO_METALS_LISTING: &str =
     "slack=30\nwire=26\nsinks=3\nleaf=1,5\nleaf=2,4\nleaf=3,5\nnode=4,0,4,0\nnode=5,4,10,0\n";
+
+const TWO_METALS_WEIGHTED: &str =
+    "slack=30\nwire=26\nsinks=3\nleaf=1,4\nleaf=2,5\nleaf=3,4\nnode=4,5,10,0\nnode=5,0,4,0\n";
 
 /// A file that a program finds: none, a folder, or a text.
 enum Found {
@@ -120,17 +138,18 @@ fn with(old: &str, new: &str) -> String {
     A.replacen(old, new, 1)
 }
 
-/// The one refuses a need that no tree reaches, the other does not look at it.
-fn needs() -> [Case; 2] {
+/// The first refuses a need that no tree reaches, the others do not look at it.
+fn needs() -> [Case; 3] {
     let (name, net) = ("A with need=1", with("need=0", "need=1"));
     let told = "standard input:4: no legal tree has the needed slack\n";
     [
         plan(PLAN, name, &net, "refused=5,1,4\n", told),
         plan(PLAN_SHORT, name, &net, SHORT, ""),
+        plan(PLAN_WEIGHTED, name, &net, WEIGHTED, ""),
     ]
 }
 
-/// What both have in common: listings, and how the net is refused.
+/// What all have in common: listings, and how the net is refused.
 fn plans(planner: &Planner) -> Vec<Case> {
     let misspelt = "the line due here is missing, lacks its newline, or is misspelt";
     let listed =
@@ -142,7 +161,7 @@ fn plans(planner: &Planner) -> Vec<Case> {
     };
     vec![
         listed("A", A, planner.listing),
-        listed("two metals", TWO_METALS, TWO_METALS_LISTING),
+        listed("two metals", TWO_METALS, planner.two_metals),
         refused("nothing", "", "2,1,1", &format!("1: {misspelt}")),
         refused(
             "branch=0",
@@ -167,6 +186,18 @@ fn plans(planner: &Planner) -> Vec<Case> {
             &with("sink=4,6,60", "sink=40000000,1,60"),
             "13,1,7",
             "7: the sink is too far from the root",
+        ),
+        refused(
+            "a sink without its weight",
+            &with("sink=4,6,60,1", "sink=4,6,60"),
+            "2,1,7",
+            &format!("7: {misspelt}"),
+        ),
+        refused(
+            "a weight of 1001",
+            &with("sink=4,6,60,1", "sink=4,6,60,1001"),
+            "3,1,7",
+            "7: a number is out of range",
         ),
         refused(
             "as many bytes as a net may have",
@@ -261,12 +292,19 @@ fn net_files() -> Vec<Case> {
             "refused=2,1,3\n",
             "net.txt:3: the line due here is missing, lacks its newline, or is misspelt\n",
         ),
+        judge(
+            "judge over a weight of 0",
+            Found::Text(with("sink=10,10,70,1", "sink=10,10,70,0")),
+            text(LISTING),
+            "refused=3,1,8\n",
+            "net.txt:8: a number is out of range\n",
+        ),
     ]
 }
 
 /// A's listing, and listings of other figures or parents over A.
 fn listings() -> Vec<Case> {
-    let rows: [(&str, String, &str, &str); 12] = [
+    let rows: [(&str, String, &str, &str); 13] = [
         (
             "judge A's listing",
             LISTING.into(),
@@ -277,6 +315,12 @@ fn listings() -> Vec<Case> {
             "judge A's short tree",
             SHORT.into(),
             "slack=-10\nwire=26\nbest=0\n",
+            "",
+        ),
+        (
+            "judge A's third plan",
+            WEIGHTED.into(),
+            "slack=0\nwire=32\nbest=0\n",
             "",
         ),
         (

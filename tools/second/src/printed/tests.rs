@@ -13,7 +13,7 @@ fn scripts(name: &str, script: &str) -> PathBuf {
     let name = format!("repeater_tree_{name}_{}", std::process::id());
     let folder = std::env::temp_dir().join(name);
     fs::create_dir_all(&folder).unwrap();
-    for program in ["plan", "plan_short", "judge"] {
+    for program in ["plan", "plan_short", "plan_weighted", "judge"] {
         let file = folder.join(program);
         fs::write(&file, format!("#!/bin/sh\n{script}\n")).unwrap();
         fs::set_permissions(&file, fs::Permissions::from_mode(0o755)).unwrap();
@@ -44,15 +44,18 @@ fn a_refusal_without_words_is_told() {
     assert!(faults.contains(&"plan A with need=1".to_string()));
 }
 
-/// The first plan's answer is not the short tree's: A's listings differ, and a
-/// need out of reach is no refusal there.
+/// The first plan's answer is not the others': A's listings differ, and a need
+/// out of reach is no refusal there.
 #[test]
 fn one_program_for_the_other_is_told() {
     let listing = cases::LISTING.escape_default().to_string();
     let faults = told("other", &format!("cat > /dev/null; printf '{listing}'"));
     assert!(!faults.contains(&"plan A".to_string()));
-    for name in ["plan_short A", "plan_short A with need=1"] {
-        assert!(faults.contains(&name.to_string()), "{faults:?}");
+    for program in ["plan_short", "plan_weighted"] {
+        for name in ["A", "A with need=1"] {
+            let name = format!("{program} {name}");
+            assert!(faults.contains(&name), "{name} is not in {faults:?}");
+        }
     }
 }
 

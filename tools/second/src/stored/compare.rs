@@ -4,16 +4,24 @@
 use super::set::original;
 use super::{planned, Report, Stored};
 use crate::library;
-use crate::planners::{
-    Planner, GATHERED, LIBRARY, PLAIN, SHORT_LIBRARY, SHORT_PLAIN, SHORT_SLOW, SLOW,
-};
-use crate::programs::{judge_text, refused, Programs, PLAN, PLAN_SHORT};
+use crate::planners::{Planner, GATHERED, LIBRARY, PLAIN, SLOW};
+use crate::planners::{SHORT_LIBRARY, SHORT_PLAIN, SHORT_SLOW};
+use crate::planners::{WEIGHTED_LIBRARY, WEIGHTED_PLAIN, WEIGHTED_SLOW};
+use crate::programs::{judge_text, refused, Programs, PLAN, PLAN_SHORT, PLAN_WEIGHTED};
 use crate::scaled;
 use second_reference::answer::{Answer, Refusal};
 use second_reference::net::Net;
 use second_reference::{kraft, plain, short, slow};
 use std::io::{ErrorKind, Result};
 use std::path::Path;
+
+/// A listing of a plan that ignores need, and who must give it.
+struct Further<'a> {
+    what: &'static str,
+    listing: &'a [u8],
+    planners: &'a [Planner],
+    program: &'static str,
+}
 
 impl Stored {
     /// Where the name says that this is a multiple of another, it is.
@@ -32,7 +40,7 @@ impl Stored {
     }
 
     /// All texts are those of the original, so many times as large; the short
-    /// tree's where both have one.
+    /// tree's and the third plan's where both have one.
     fn compare_image(&self, original: &Stored, factor: i64, report: &mut Report) {
         let mut compare = |what: &str, own: &[u8], image: Option<Vec<u8>>| {
             if image.as_deref() != Some(own) {
@@ -47,6 +55,7 @@ impl Stored {
         for (what, own, other) in [
             ("listing", &self.tree, &original.tree),
             ("short tree", &self.short, &original.short),
+            ("third plan", &self.weighted, &original.weighted),
         ] {
             if let (Some(own), Some(other)) = (own, other) {
                 compare(what, own, scaled::listing(other, factor));
@@ -60,7 +69,8 @@ impl Stored {
                 report.nets += 1;
                 report.sinks += net.sinks.len();
                 self.compare_first(&net, programs, report)?;
-                self.compare_short(&net, programs, report)
+                self.compare_short(&net, programs, report)?;
+                self.compare_weighted(&net, programs, report)
             }
             Err(refusal) => {
                 self.fault(report, &format!("no net in the format, {refusal:?}"));
@@ -108,10 +118,45 @@ impl Stored {
             report.slow_shorts += 1;
             planners.push(SHORT_SLOW);
         }
+        let short = Further {
+            what: "short tree",
+            listing: tree,
+            planners: &planners,
+            program: PLAN_SHORT,
+        };
+        self.compare_further(net, &short, programs, report)
+    }
+
+    fn compare_weighted(
+        &self,
+        net: &Net,
+        programs: Option<&Programs>,
+        report: &mut Report,
+    ) -> Result<()> {
+        let Some(tree) = &self.weighted else {
+            return Ok(());
+        };
+        report.weighted += 1;
+        let weighted = Further {
+            what: "third plan",
+            listing: tree,
+            planners: &[WEIGHTED_LIBRARY, WEIGHTED_PLAIN, WEIGHTED_SLOW],
+            program: PLAN_WEIGHTED,
+        };
+        self.compare_further(net, &weighted, programs, report)
+    }
+
+    fn compare_further(
+        &self,
+        net: &Net,
+        by: &Further,
+        programs: Option<&Programs>,
+        report: &mut Report,
+    ) -> Result<()> {
         let best = kraft::maximum(net) as i64;
-        let plan = self.compare_listing("short tree", tree, &planners, report);
-        self.compare_printed(PLAN_SHORT, tree, programs, report)?;
-        self.judge(tree, plan, best, programs, report)
+        let plan = self.compare_listing(by.what, by.listing, by.planners, report);
+        self.compare_printed(by.program, by.listing, programs, report)?;
+        self.judge(by.listing, plan, best, programs, report)
     }
 
     /// The first planner's figures, if it has any.

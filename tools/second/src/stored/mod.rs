@@ -1,5 +1,6 @@
 //! Stored nets with their listings: whoever plans such a net must give the
-//! very bytes of its listing, and of that of its short tree where it has one.
+//! very bytes of its listing, and of those of its short tree and its third plan
+//! where it has them.
 
 mod compare;
 mod set;
@@ -7,9 +8,9 @@ mod set;
 mod tests;
 
 pub use set::{drawn, LEAST_NETS};
-use set::{has_short, is_reachable};
+use set::{has_short, has_weighted, is_reachable};
 
-use crate::planners::{Planner, LIBRARY, SHORT_LIBRARY};
+use crate::planners::{Planner, LIBRARY, SHORT_LIBRARY, WEIGHTED_LIBRARY};
 use crate::programs::Programs;
 use repeater_tree::LISTING_LENGTH;
 use second_reference::answer::Answer;
@@ -21,13 +22,18 @@ use std::path::{Path, PathBuf};
 const NET: &str = "net";
 const TREE: &str = "tree";
 const SHORT: &str = "short";
+const WEIGHTED: &str = "weighted";
 
 /// Each kind of listing by its extension, its name, and whether it is due.
 type Due = (&'static str, &'static str, fn(&str) -> bool);
-const LISTINGS: [Due; 2] = [
+const LISTINGS: [Due; 3] = [
     (TREE, "listing", is_reachable),
     (SHORT, "short tree", has_short),
+    (WEIGHTED, "third plan", has_weighted),
 ];
+
+/// What may be added to a net that is stored.
+const ADDED: [&str; 2] = [SHORT, WEIGHTED];
 
 #[derive(Default)]
 pub struct Report {
@@ -42,6 +48,8 @@ pub struct Report {
     /// Short trees, and those that the slow reference made too.
     pub shorts: usize,
     pub slow_shorts: usize,
+    /// Third plans, all by the slow reference too.
+    pub weighted: usize,
     pub faults: Vec<String>,
 }
 
@@ -51,6 +59,7 @@ pub struct Stored {
     pub net: Vec<u8>,
     pub tree: Option<Vec<u8>>,
     pub short: Option<Vec<u8>>,
+    pub weighted: Option<Vec<u8>>,
 }
 
 /// Compares every stored listing with what all planners and judges give. A
@@ -87,7 +96,8 @@ pub fn check(folder: &Path, least: usize, programs: Option<&Programs>) -> Result
 }
 
 /// Stores each net with the library's listings if all agree on them. Where a
-/// file of that name exists, only a short tree is added to a net.
+/// file of that name exists, only a short tree and a third plan are added to a
+/// net.
 pub fn write(
     folder: &Path,
     nets: &[(String, Vec<u8>)],
@@ -96,14 +106,13 @@ pub fn write(
     let mut report = Report::default();
     for (name, net) in nets {
         let stored = Stored::planned(name, net);
-        let exists = |extension| path(folder, name, extension).exists();
+        let exists = |extension: &str| path(folder, name, extension).exists();
         let mut new = stored.files();
-        match [NET, TREE, SHORT].map(exists) {
-            [false, false, false] => {}
-            [true, _, false] => new.retain(|(extension, _)| *extension == SHORT),
-            _ => continue,
+        if exists(NET) {
+            new.retain(|(extension, _)| ADDED.contains(extension) && !exists(extension));
         }
-        if new.is_empty() {
+        let stray = !exists(NET) && LISTINGS.iter().any(|(extension, ..)| exists(extension));
+        if stray || new.is_empty() {
             continue;
         }
         let faults = report.faults.len();
@@ -156,6 +165,7 @@ impl Stored {
             net: read(NET)?,
             tree: due(is_reachable(name), TREE)?,
             short: due(has_short(name), SHORT)?,
+            weighted: due(has_weighted(name), WEIGHTED)?,
         })
     }
 
@@ -167,13 +177,18 @@ impl Stored {
             net: net.to_vec(),
             tree: listing(is_reachable(name), LIBRARY),
             short: listing(has_short(name), SHORT_LIBRARY),
+            weighted: listing(has_weighted(name), WEIGHTED_LIBRARY),
         }
     }
 
     /// By extension, the net first.
     fn files(&self) -> Vec<(&'static str, &[u8])> {
         let mut files = vec![(NET, &self.net[..])];
-        let listings = [(TREE, &self.tree), (SHORT, &self.short)];
+        let listings = [
+            (TREE, &self.tree),
+            (SHORT, &self.short),
+            (WEIGHTED, &self.weighted),
+        ];
         for (extension, listing) in listings {
             files.extend(listing.as_deref().map(|bytes| (extension, bytes)));
         }

@@ -5,13 +5,14 @@ use crate::nets;
 use crate::random::Random;
 use crate::ranges::{Ranges, MICROMETRES, NANOMETRES};
 use crate::scaled;
-use crate::shapes::{MARKED, METALS, RANGE_END, SHAPES, SHORT};
+use crate::shapes::{MARKED, METALS, RANGE_END, SHAPES, SHORT, WEIGHTED};
 use crate::streets::STREETS;
+use crate::weights::{self, WEIGHTS};
 use second_reference::kraft;
 use second_reference::net::{Factors, Net, NEED};
 
 /// The set has so many; more may come, and none may go.
-pub const LEAST_NETS: usize = 166;
+pub const LEAST_NETS: usize = 186;
 
 const SEED: u64 = 20_090_401;
 
@@ -73,6 +74,25 @@ const STREET_NETS: [Asked; 7] = [
     ("stairs", Some((3, 2)), 16),
 ];
 
+/// Nets with other weights than 1, which decide their third plans: their shape,
+/// how they are weighed, and size.
+const WEIGHTED_NETS: [(&str, &str, usize); 14] = [
+    ("common", "any", 12),
+    ("common", "any", 512),
+    ("extreme", "ends", 17),
+    ("extreme", "ends", 512),
+    ("tied", "few", 65),
+    ("spread-out", "sums", 64),
+    ("stairs", "sums", 17),
+    ("grid", "powers", 64),
+    ("spread-out", "fibonacci", 17),
+    ("clusters", "fibonacci", 65),
+    ("common", "fibonacci", 512),
+    ("spread-out", "equal", 16),
+    ("ring", "heavy", 17),
+    ("common", "heavy", 65),
+];
+
 /// Nets whose need is out of reach.
 const UNREACHABLE_NETS: [(&str, usize); 4] = [
     ("common", 12),
@@ -97,6 +117,19 @@ pub const LARGE_SHORT: [&str; 8] = [
     "cornered-nm-wire-3-2-512",
 ];
 
+/// So it is with third plans.
+const MOST_WEIGHTED: usize = 65;
+pub const LARGE_WEIGHTED: [&str; 8] = [
+    "common-512",
+    "as-near-512",
+    "as-near-times-1000-512",
+    "longest-nm-512",
+    "longest-nm-weights-most-512",
+    "common-nm-weights-any-512",
+    "common-nm-weights-fibonacci-512",
+    "extreme-nm-weights-ends-512",
+];
+
 /// Stored nets of which the set has the image too.
 const IMAGES_OF: [&str; 7] = [
     "marked-a-3",
@@ -115,7 +148,8 @@ const FACTOR: i64 = 1_000;
 type Named = (String, Vec<u8>);
 
 /// Every net of the set, by name. Those with neither `nm` nor `times` in their
-/// names are of the ranges before request 5, which lie within the format's.
+/// names are of the ranges before request 5, which lie within the format's. Those
+/// without `weight` have weights of 1.
 pub fn drawn() -> Vec<Named> {
     let mut all = given();
     for (i, (shape, _)) in SHAPES.into_iter().enumerate() {
@@ -133,6 +167,7 @@ pub fn drawn() -> Vec<Named> {
     for (shape, wire, n) in STREET_NETS {
         all.push(draw(&NANOMETRES, &format!("{shape}-nm"), wire, n));
     }
+    all.extend(WEIGHTED_NETS.map(|(shape, how, n)| weighed(shape, how, n)));
     all.extend(unreachable());
     let images: Vec<Named> = IMAGES_OF.iter().map(|name| image(&all, name)).collect();
     all.extend(images);
@@ -142,10 +177,27 @@ pub fn drawn() -> Vec<Named> {
 /// The marked nets and the longest.
 fn given() -> Vec<Named> {
     let marked = MARKED.iter().chain(&METALS).chain(&RANGE_END).chain(&SHORT);
+    let marked = marked.chain(&WEIGHTED);
     let marked = marked.map(|(name, net)| (name.to_string(), net.to_vec()));
-    let longest = [("longest-512", MICROMETRES), ("longest-nm-512", NANOMETRES)];
-    let longest = longest.map(|(name, ranges)| (name.to_string(), nets::longest(&ranges).text()));
+    let (small, large) = (nets::longest(&MICROMETRES), nets::longest(&NANOMETRES));
+    let longest = [
+        ("longest-512", weights::light(small)),
+        ("longest-nm-512", weights::light(large.clone())),
+        ("longest-nm-weights-most-512", large),
+    ];
+    let longest = longest.map(|(name, net)| (name.to_string(), net.text()));
     marked.chain(longest).collect()
+}
+
+fn weighed(shape: &str, how: &str, n: usize) -> Named {
+    let (name, net) = draw(&NANOMETRES, &format!("{shape}-nm-weights-{how}"), None, n);
+    let net = Net::read(&net).expect("a net's text");
+    let (_, weigh) = WEIGHTS
+        .into_iter()
+        .find(|(name, _)| *name == how)
+        .expect("the name of weights");
+    let net = weights::by(&Random::named(SEED, &name), weigh, net);
+    (name, net.text())
 }
 
 /// One more is needed than any tree has, or the most that can be asked for.
@@ -171,8 +223,18 @@ pub fn is_reachable(name: &str) -> bool {
 
 /// Whether the net's short tree is stored.
 pub fn has_short(name: &str) -> bool {
-    let sinks = name.rsplit_once('-').map(|(_, n)| n.parse());
-    matches!(sinks, Some(Ok(..=MOST_SHORT))) || LARGE_SHORT.contains(&name)
+    sinks(name) <= MOST_SHORT || LARGE_SHORT.contains(&name)
+}
+
+/// Whether the net's third plan is stored.
+pub fn has_weighted(name: &str) -> bool {
+    sinks(name) <= MOST_WEIGHTED || LARGE_WEIGHTED.contains(&name)
+}
+
+/// A name ends with them; one that does not is no net's of the set.
+fn sinks(name: &str) -> usize {
+    let end = name.rsplit_once('-').map(|(_, n)| n.parse());
+    end.and_then(|n| n.ok()).unwrap_or(usize::MAX)
 }
 
 fn image(all: &[Named], name: &str) -> Named {
@@ -194,7 +256,7 @@ fn draw(ranges: &Ranges, named: &str, wire: Option<(i64, i64)>, n: usize) -> Nam
         Some((h, v)) => format!("{named}-wire-{h}-{v}-{n}"),
         None => format!("{named}-{n}"),
     };
-    let shape = named.trim_end_matches(UNREACHABLE).trim_end_matches("-nm");
+    let shape = named.split_once("-nm").map_or(named, |(shape, _)| shape);
     let (_, make) = SHAPES
         .into_iter()
         .chain(STREETS)

@@ -1,6 +1,7 @@
 //! A folder of a few stored nets, then spoilt in each way.
 
-use super::{check, drawn, has_short, path, set, write, Report, LEAST_NETS, NET, SHORT, TREE};
+use super::{check, drawn, has_short, has_weighted, path, set, write, Report, LEAST_NETS};
+use super::{NET, SHORT, TREE, WEIGHTED};
 use std::fs;
 use std::path::{Path, PathBuf};
 
@@ -15,9 +16,10 @@ impl Drop for Folder {
 
 const NAME: &str = "near-root-3";
 const NETS: usize = 3;
-/// How many short trees are stored.
-const SHORT_TREES: usize = 146;
-const ALL: [&str; 3] = [NET, TREE, SHORT];
+/// How many short trees and third plans are stored.
+const SHORT_TREES: usize = 162;
+const THIRD_PLANS: usize = 162;
+const ALL: [&str; 4] = [NET, TREE, SHORT, WEIGHTED];
 
 fn named(names: &[&str]) -> Vec<(String, Vec<u8>)> {
     let mut nets = drawn();
@@ -81,7 +83,8 @@ fn an_image_of_another_net_is_told() {
     }
     let told = |what: &str| format!("{name}: its {what} is not 1000 times {original}'s");
     let faults = check(&folder.0, 2, None).unwrap().faults;
-    assert_eq!(faults, [told("net"), told("listing"), told("short tree")]);
+    let all = ["net", "listing", "short tree", "third plan"];
+    assert_eq!(faults, all.map(told));
     for extension in ALL {
         fs::remove_file(path(&folder.0, original, extension)).unwrap();
     }
@@ -95,6 +98,7 @@ fn what_was_written_agrees() {
     assert!(report.faults.is_empty(), "{:?}", report.faults);
     assert_eq!((report.nets, report.sinks, report.slow), (NETS, 8, NETS));
     assert_eq!((report.shorts, report.slow_shorts), (NETS, NETS));
+    assert_eq!(report.weighted, NETS);
 }
 
 /// Each byte in turn: every planner differs there.
@@ -126,6 +130,12 @@ fn a_changed_byte_of_a_short_tree_is_told() {
 }
 
 #[test]
+fn a_changed_byte_of_a_third_plan_is_told() {
+    let planners = ["library", "plain", "slow"];
+    told_at_each_byte("weighted_byte", WEIGHTED, "third plan", &planners);
+}
+
+#[test]
 fn a_cut_listing_is_told() {
     let folder = stored("cut");
     let good = fs::read(folder.file(TREE)).unwrap();
@@ -142,6 +152,7 @@ fn a_missing_file_is_told() {
     for (extension, told) in [
         (TREE, "no listing"),
         (SHORT, "no short tree"),
+        (WEIGHTED, "no third plan"),
         (NET, "no net"),
     ] {
         let folder = stored(extension);
@@ -171,19 +182,30 @@ fn what_is_stored_is_kept() {
     assert!(!folder.file(NET).exists());
 }
 
-/// A short tree is added to what is stored, and then kept too.
+/// A short tree or a third plan is added to what is stored, and then kept too.
 #[test]
-fn a_short_tree_is_added() {
-    let folder = stored("added");
-    let good = fs::read(folder.file(SHORT)).unwrap();
-    fs::remove_file(folder.file(SHORT)).unwrap();
-    for (nets, then) in [(1, &good[..]), (0, b"x")] {
-        assert_eq!(write(&folder.0, &few(), None).unwrap().nets, nets);
-        assert!(fs::read(folder.file(SHORT)).unwrap() == good);
-        fs::write(folder.file(SHORT), then).unwrap();
+fn a_further_plan_is_added() {
+    for extension in [SHORT, WEIGHTED] {
+        let folder = stored(&format!("added_{extension}"));
+        let good = fs::read(folder.file(extension)).unwrap();
+        fs::remove_file(folder.file(extension)).unwrap();
+        for (nets, then) in [(1, &good[..]), (0, b"x")] {
+            assert_eq!(write(&folder.0, &few(), None).unwrap().nets, nets);
+            assert!(fs::read(folder.file(extension)).unwrap() == good);
+            fs::write(folder.file(extension), then).unwrap();
+        }
+        assert_eq!(write(&folder.0, &few(), None).unwrap().nets, 0);
+        assert_eq!(fs::read(folder.file(extension)).unwrap(), b"x");
     }
+}
+
+/// A first plan is not.
+#[test]
+fn a_first_plan_is_not_added() {
+    let folder = stored("first");
+    fs::remove_file(folder.file(TREE)).unwrap();
     assert_eq!(write(&folder.0, &few(), None).unwrap().nets, 0);
-    assert_eq!(fs::read(folder.file(SHORT)).unwrap(), b"x");
+    assert!(!folder.file(TREE).exists());
 }
 
 /// Net A's need is reached, so its planners do not refuse it.
@@ -192,8 +214,8 @@ fn a_need_within_reach_is_told() {
     let name = "marked-a-unreachable-3";
     let folder = folder_of("reach", &named(&[name]));
     let report = check(&folder.0, 1, None).unwrap();
-    let found = (report.unreachable, report.shorts, report.faults.len());
-    assert_eq!(found, (1, 1, 0));
+    let found = (report.unreachable, report.shorts, report.weighted);
+    assert_eq!((found, report.faults.len()), ((1, 1, 1), 0));
     let file = path(&folder.0, name, NET);
     let net = fs::read_to_string(&file).unwrap();
     fs::write(&file, net.replace("need=1", "need=0")).unwrap();
@@ -207,13 +229,17 @@ fn a_need_within_reach_is_told() {
     assert!(check(&folder.0, 1, None).unwrap().faults.contains(&told));
 }
 
-/// Every net up to some size has its short tree, and those that are named.
+/// Every net up to some size has its short tree and its third plan, and those
+/// that are named.
 #[test]
-fn short_trees_are_due() {
+fn further_plans_are_due() {
     let all: Vec<String> = drawn().into_iter().map(|(name, _)| name).collect();
-    for name in set::LARGE_SHORT {
+    for name in set::LARGE_SHORT.iter().chain(&set::LARGE_WEIGHTED) {
         assert!(all.iter().any(|n| n == name), "{name}");
     }
-    let due = all.iter().filter(|name| has_short(name)).count();
-    assert_eq!((due, all.len()), (SHORT_TREES, LEAST_NETS));
+    let due = |has: fn(&str) -> bool| all.iter().filter(|name| has(name)).count();
+    assert_eq!(
+        (due(has_short), due(has_weighted), all.len()),
+        (SHORT_TREES, THIRD_PLANS, LEAST_NETS)
+    );
 }
