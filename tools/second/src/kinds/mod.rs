@@ -8,8 +8,8 @@ mod metals;
 mod planned;
 mod scaled;
 mod short;
-mod sink_line;
 mod spoilt;
+mod weight_line;
 mod weighted;
 mod wire_line;
 
@@ -99,5 +99,5 @@ pub const ALL: &[Kind] = &[
     kind("weighted-spoilt", 2, weighted::spoilt_nets),
     kind("weighted-cuts", 50, weighted::cuts),
     kind("weights-ignored", 1, weighted::ignored),
-    kind("sink-line", 20, sink_line::all),
+    kind("weight-line", 20, weight_line::all),
 ];

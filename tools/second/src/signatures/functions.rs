@@ -65,6 +65,11 @@ pub fn of_rust(source: &str) -> Vec<Function> {
         .collect()
 }
 
+/// Whether a Rust source has a `pub fn` of this name.
+pub fn is_offered(source: &str, name: &str) -> bool {
+    after(&words(source), ["pub", "fn", name]).next().is_some()
+}
+
 /// What follows these three words, wherever they stand.
 fn after<'a>(words: &'a [String], three: [&'a str; 3]) -> impl Iterator<Item = &'a [String]> {
     let all = words.windows(3).enumerate();

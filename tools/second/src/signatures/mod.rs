@@ -31,6 +31,8 @@ const LIMITS: &str = "crates/*/src/limits.rt";
 
 /// The prefix of every macro in the header.
 const PREFIX: &str = "REPEATER_TREE_";
+/// And of every function in it; the wrapper's have their names without it.
+const FUNCTION_PREFIX: &str = "repeater_tree_";
 /// Measured on the archive: no constant of the Rattle source has it.
 const STACK: &str = "STACK";
 
@@ -138,6 +140,10 @@ fn compare_functions(sources: &Sources, report: &mut Report) {
             report.tell(format!(
                 "{HEADER}: {name} does not mean its inline function"
             ));
+        }
+        let name = function.name.trim_start_matches(FUNCTION_PREFIX);
+        if !functions::is_offered(&sources.wrapper, name) {
+            report.tell(format!("{WRAPPER}: no function {name}"));
         }
     }
 }

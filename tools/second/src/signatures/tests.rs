@@ -79,7 +79,7 @@ fn the_sources_agree() {
     assert_eq!(report.differences, [""; 0]);
     let exported = sources().library.matches("#[no_mangle]").count();
     assert_eq!(report.functions, exported);
-    assert!(report.limits >= 4);
+    assert!(report.limits >= 5);
     assert_eq!(report.places, 9);
     // one for each refusal, two for the wrong number of children
     assert_eq!(report.wordings, 14);
@@ -231,8 +231,9 @@ fn a_missing_parameter_is_told() {
 }
 
 /// A function is held to the source whatever its name: one that only the source
-/// has is missing in the header, as an inline function, and in the wrapper, and
-/// does not mean its inline function; one that it has not is told too.
+/// has is missing in the header, as an inline function, and in the wrapper, which
+/// does not offer it, and does not mean its inline function; one that it has not
+/// is told too.
 #[test]
 fn a_function_more_is_told() {
     const MORE: &str = "repeater_tree_plan_more";
@@ -247,7 +248,9 @@ fn a_function_more_is_told() {
     let report = compare(&rattle);
     assert_eq!(report.functions, compare(&sources()).functions + 1);
     let differences = report.differences;
-    assert_eq!(differences.len(), 4, "{differences:?}");
+    assert_eq!(differences.len(), 5, "{differences:?}");
+    let offered = format!("{WRAPPER}: no function plan_more");
+    assert!(differences.contains(&offered), "{differences:?}");
     for file in [HEADER, CALLS, "the inline functions of"] {
         let missing =
             |d: &String| d.starts_with(file) && d.ends_with(&format!("{MORE} is missing"));
@@ -261,6 +264,19 @@ fn a_function_more_is_told() {
     let more = declared(&rust.calls);
     rust.calls += &format!("extern \"C\" {{\n{more};\n}}\n");
     told(compare(&rust).differences, &format!("{MORE} is not in"));
+}
+
+/// Whichever call it is, the wrapper offers it.
+#[test]
+fn a_call_that_the_wrapper_lacks_is_told() {
+    for function in functions::of_rattle(&sources().library) {
+        let name = function.name.trim_start_matches(FUNCTION_PREFIX);
+        let (old, new) = (format!("pub fn {name}("), format!("fn {name}("));
+        told(
+            planted(wrapper, &old, &new),
+            &format!("{WRAPPER}: no function {name}"),
+        );
+    }
 }
 
 /// The last declaration of a function in the header is its inline function.
@@ -313,6 +329,25 @@ fn another_limit_is_told() {
         planted(wrapper, "pub const NET_LENGTH:", "pub const LONGEST:"),
         "no REPEATER_TREE_LONGEST",
     );
+}
+
+/// Whether the three have it or not: it is given to all of them, and then the
+/// header's is another.
+#[test]
+fn another_limit_of_weights_is_told() {
+    let mut sources = sources();
+    let stated = "pub const WEIGHT_LIMIT: u64 = 1_000;";
+    sources.wrapper += stated;
+    sources.limits.push(stated.to_string());
+    sources.header += "#define REPEATER_TREE_WEIGHT_LIMIT 1000\n";
+    assert_eq!(compare(&sources).differences, [""; 0]);
+    sources.header += "#define REPEATER_TREE_WEIGHT_LIMIT 1001\n";
+    for file in [WRAPPER, LIMITS] {
+        told(
+            compare(&sources).differences,
+            &format!("REPEATER_TREE_WEIGHT_LIMIT is 1001, {file} has 1000"),
+        );
+    }
 }
 
 /// The same name in two crates with two values.

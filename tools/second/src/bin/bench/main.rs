@@ -8,11 +8,13 @@
 //!   paths     judgements of one long path over the same nets
 //!   million   a million different small nets
 //!   short     short trees by shape and size of the net
+//!   weighted  third plans by weights and size of the net
 //!   compare   wire and slack of the short tree beside the first plan's
 
 mod plans;
 mod short;
 mod table;
+mod weighted;
 
 use repeater_tree::{judge_figures, plan_figures, JudgeFigures, PlanFigures, LISTING_LENGTH};
 use second_reference::net::Net;
@@ -45,12 +47,13 @@ const SIZES: [usize; 8] = [1, 5, 12, 16, 17, 50, 200, 512];
 /// Different nets of one shape and size.
 const NETS: usize = 12;
 
-const PARTS: [(&str, fn()); 6] = [
+const PARTS: [(&str, fn()); 7] = [
     ("plan", timed_plans),
     ("judge", judged_plans),
     ("paths", judged_paths),
     ("million", million),
     ("short", short::short_trees),
+    ("weighted", weighted::third_plans),
     ("compare", plans::both_plans),
 ];
 
