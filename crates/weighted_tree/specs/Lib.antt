@@ -1,4 +1,5 @@
 -- What a reviewer believes of the tree by switching weights, bottom first.
 pub mod Joining
 pub mod WeightedDelay
+pub mod ThirdPlan
 pub mod Marked

@@ -1,5 +1,5 @@
 -- The sum of weight × delay, and what 02's request 7 says of it, as a statement about any net and any weights (source document 003, lemma 5.5).
-use Prim.Native.Nat.{ℕ, _≤_}
+use Prim.Native.Nat.{ℕ}
 use mathlib.Core.List.{List, [], _∷_}
 use lib.IntN.{ℤ, pos, _+ℤ_, _-ℤ_, _*ℤ_}
 use lib.Signed.{_≤ℤ_}
