@@ -13,7 +13,7 @@ use Rattle.tree.proofs.Laws.Lists.Sums.{equal?}
 use Rattle.tree.proofs.Laws.Arrays.NetAndTree.{parents-length, parents-at}
 use Rattle.tree.proofs.Laws.Trees.LegalTrees.{put-same, put-other}
 
-parents-put : (n : ℕ) (ps : List ℕ) (v a : ℕ) → 2 * n ≤ length ps → 1 ≤ v → v < 2 * n → parentsOf n (set ps v a) ≡ put (parentsOf n ps) v a
+pub parents-put : (n : ℕ) (ps : List ℕ) (v a : ℕ) → 2 * n ≤ length ps → 1 ≤ v → v < 2 * n → parentsOf n (set ps v a) ≡ put (parentsOf n ps) v a
 parents-put n ps v a long v1 vn =
     ext-getD 0 (parentsOf n (set ps v a)) (put P v a) (parents-length n (set ps v a) ∙ sym (length-set P (v - 1) a ∙ parents-length n ps)) (λ i q. at i (omega (arith, parents-length n (set ps v a))))
   where
