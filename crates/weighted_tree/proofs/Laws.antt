@@ -8,3 +8,5 @@ pub mod Fits
 pub mod LeastWeighted
 pub mod Ranges
 pub mod Marked
+pub mod FirstTwo
+pub mod Queues

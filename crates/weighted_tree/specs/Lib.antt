@@ -3,3 +3,4 @@ pub mod Joining
 pub mod WeightedDelay
 pub mod ThirdPlan
 pub mod Marked
+pub mod Inner

@@ -1,0 +1,1 @@
+// The tree by switching weights, made and measured.
