@@ -10,3 +10,5 @@ pub mod Ranges
 pub mod Marked
 pub mod FirstTwo
 pub mod Queues
+pub mod Assumed
+pub mod JoinArrays

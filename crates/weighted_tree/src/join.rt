@@ -11,7 +11,7 @@ ghost use Rattle.tree.specs.Planning.{sort};
 ghost use Rattle.tree.specs.Limits.{sinkLimit, WeightsInRange};
 ghost use Rattle.tree.specs.Inner.Arrays.{parentsOf, weightsOf, HoldsWeights};
 ghost use Rattle.tree.specs.Inner.Insertion.{earlierBy};
-ghost use Rattle.weighted_tree.specs.Joining.{joinedParents};
+ghost use Rattle.weighted_tree.specs.Joining.{joinedAfter, joinedParents};
 ghost use Rattle.weighted_tree.specs.Inner.Arrays.{Sinks, SinkFirst, BranchFirst, Takes, Joined};
 use tree::places::clear;
 
@@ -82,8 +82,8 @@ fn join_next(
     parents: &mut [usize],
 ) -> usize
     requires { ⌜ (suc k < n) × (n ≤ sinkLimit) × (2 * n ≤ length (now weights)) × (n ≤ length (now order)) × (2 * n ≤ length (now parents)) ⌝ }
-    requires { ⌜ ((w : List ℕ) × (WeightsInRange n w × Joined n w k i (now weights) (now order) (now parents))) ⌝ }
-    ensures { λ r. ⌜ ((w : List ℕ) → WeightsInRange n w → Joined n w k i (now (weights .entry)) (now (order .entry)) (now (parents .entry)) → Joined n w (suc k) r (now (weights .exit)) (now (order .entry)) (now (parents .exit))) ⌝ }
+    requires { ⌜ ((w : List ℕ) × (WeightsInRange n w × Joined n k i (joinedAfter n w k) (now weights) (now order) (now parents))) ⌝ }
+    ensures { λ r. ⌜ ((w : List ℕ) → WeightsInRange n w → Joined n k i (joinedAfter n w k) (now (weights .entry)) (now (order .entry)) (now (parents .entry)) → Joined n (suc k) r (joinedAfter n w (suc k)) (now (weights .exit)) (now (order .entry)) (now (parents .exit))) ⌝ }
 {
     let one = take_first(n, k, weights, order, i, 2 * k - i);
     let x = one.vertex;

@@ -1,14 +1,30 @@
 -- Two queues, each in order: what is taken goes before all that wait, and joining the two that are taken first keeps both in order. Assumes nothing.
 use Prim.Native.Nat.{ℕ, suc, _+_, _*_, _≤_, _<_}
 use mathlib.Core.Path.{_≡_, sym, ap, ap₂, _∙_, subst}
+use mathlib.Core.Bool.{Bool, true, false, cond}
 use mathlib.Core.Logic.{_≢_, _⊎_, inl, inr}
 use native.Mathlib.Decide.{decLe}
 use native.Mathlib.Omega.{arith}
 use lib.IntN.{ℤ, pos}
-use lib.Signed.{_≤ℤ_, _<ℤ_}
+use lib.Signed.{_≤ℤ_, _<ℤ_, leZ}
 use Rattle.quantities.specs.Inner.Linear.{whole}
 use Rattle.tree.proofs.Laws.Lists.Sums.{equal?}
-use Rattle.weighted_tree.specs.Inner.Arrays.{Waits, Takes, Lower, Lines, Queues}
+use Rattle.weighted_tree.specs.Inner.Arrays.{Waits, SinkFirst, BranchFirst, Takes, Lower, Lines, Queues}
+
+-- ---- which goes first
+
+module _ (n k : ℕ) (o : ℕ → ℤ) (O : ℕ → ℕ) (i j : ℕ) where
+  -- by the test of the two weights
+  pub weights-tell : i < n → j < k → (t : Bool) → leZ (o (O i)) (o (n + suc j)) ≡ t → cond t (SinkFirst n k o O i j) (BranchFirst n k o O i j)
+  weights-tell h l true e = (h, λ g. omega (arith, whole))
+  weights-tell h l false e = (l, λ g. omega (arith, whole))
+
+  -- what the answer tells
+  pub sink-taken : (t : Bool) → t ≡ true → cond t (SinkFirst n k o O i j) (BranchFirst n k o O i j) → SinkFirst n k o O i j
+  sink-taken t e h = subst (λ (t : Bool). cond t (SinkFirst n k o O i j) (BranchFirst n k o O i j)) e h
+
+  pub branch-taken : (t : Bool) → t ≡ false → cond t (SinkFirst n k o O i j) (BranchFirst n k o O i j) → BranchFirst n k o O i j
+  branch-taken t e h = subst (λ (t : Bool). cond t (SinkFirst n k o O i j) (BranchFirst n k o O i j)) e h
 
 -- ---- one vertex is taken
 

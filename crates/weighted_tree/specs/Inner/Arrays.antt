@@ -1,5 +1,5 @@
 -- What the arrays of the third plan's program hold: two queues of the vertices that are free, and a joining. Definitions alone.
-use Prim.Native.Nat.{ℕ, suc, _+_, _*_, _≤_, _<_}
+use Prim.Native.Nat.{ℕ, suc, _+_, _*_, _-_, _≤_, _<_}
 use mathlib.Core.Path.{_≡_}
 use mathlib.Core.Logic.{_⊎_}
 use mathlib.Core.List.{List}
@@ -9,7 +9,7 @@ use lib.Signed.{_≤ℤ_, _<ℤ_}
 use Rattle.tree.specs.Tree.{parentOf}
 use Rattle.tree.specs.Weights.{weightOf}
 use Rattle.tree.specs.Inner.Arrays.{parentsOf}
-use Rattle.weighted_tree.specs.Joining.{joinedAfter}
+use Rattle.weighted_tree.specs.Joining.{Joining}
 
 -- the places 0 to n - 1 of `order` hold sinks
 abbrev pub Sinks : ℕ → List ℕ → Type 0
@@ -57,12 +57,12 @@ pub record Queues (n k i j : ℕ) (W p O : ℕ → ℕ) : Type 0 where
 
 -- ---- the arrays
 
--- after k joins of n sinks of the weights w, i sinks being joined: the total weight of each vertex, its parent, and the queues
-pub record Joined (n : ℕ) (w : List ℕ) (k i : ℕ) (weights : List ℤ) (order parents : List ℕ) : Type 0 where
-  pub joints : ℕ
-  pub weights-are : (v : ℕ) → 1 ≤ v → v ≤ n + k → getD weights v (pos 0) ≡ pos (weightOf (joinedAfter n w k .totals) v)
-  pub parents-are : parentsOf n parents ≡ joinedAfter n w k .parents
-  pub queues : Queues n k i joints (weightOf (joinedAfter n w k .totals)) (parentOf (joinedAfter n w k .parents)) (λ q. getD order q 0)
+-- k joins have been made, i sinks being joined: J has the total weight and the parent of each vertex, and the queues are left
+pub record Joined (n k i : ℕ) (J : Joining) (weights : List ℤ) (order parents : List ℕ) : Type 0 where
+  pub totals-long : suc (length (J .totals)) ≡ 2 * n
+  pub weights-are : (v : ℕ) → 1 ≤ v → v ≤ n + k → getD weights v (pos 0) ≡ pos (weightOf (J .totals) v)
+  pub parents-are : parentsOf n parents ≡ J .parents
+  pub queues : Queues n k i (2 * k - i) (weightOf (J .totals)) (parentOf (J .parents)) (λ q. getD order q 0)
 
 -- room for the whole plan: the tree is made, settled and measured
 pub record PlanRoom (n : ℕ) (xs ys weights : List ℤ) (parents order room : List ℕ) (slacks : List ℤ) : Type 0 where
