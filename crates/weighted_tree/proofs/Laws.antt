@@ -12,3 +12,4 @@ pub mod FirstTwo
 pub mod Queues
 pub mod Assumed
 pub mod JoinArrays
+pub mod Numbering
