@@ -16,14 +16,7 @@ ghost use Rattle.weighted_tree.specs.Inner.Arrays.{Sinks, SinkFirst, Bra
 use tree::places::clear;
 
 // Whether the sink at place i of `order` goes before the branch point n + j + 1: also on a tie, since its number is lower. k branch points are made.
-fn sink_goes_first(
-    n: usize,
-    k: usize,
-    weights: &[i64],
-    order: &[usize],
-    i: usize,
-    j: usize,
-) -> bool
+fn sink_goes_first(n: usize, k: usize, weights: &[i64], order: &[usize], i: usize, j: usize) -> bool
     requires { ⌜ (k < n) × (n ≤ sinkLimit) × (2 * n ≤ length (now weights)) × (n ≤ length (now order)) × (i ≤ n) × (j ≤ k) × (i + j < n + k) × Sinks n (now order) ⌝ }
     ensures { λ r. ⌜ cond r (SinkFirst n k (λ v. getD (now (weights .entry)) v (pos 0)) (λ q. getD (now (order .entry)) q 0) i j) (BranchFirst n k (λ v. getD (now (weights .entry)) v (pos 0)) (λ q. getD (now (order .entry)) q 0) i j) ⌝ }
 {
@@ -46,14 +39,7 @@ struct Taken {
     branches: usize,
 }
 
-fn take_first(
-    n: usize,
-    k: usize,
-    weights: &[i64],
-    order: &[usize],
-    i: usize,
-    j: usize,
-) -> Taken
+fn take_first(n: usize, k: usize, weights: &[i64], order: &[usize], i: usize, j: usize) -> Taken
     requires { ⌜ (k < n) × (n ≤ sinkLimit) × (2 * n ≤ length (now weights)) × (n ≤ length (now order)) × (i ≤ n) × (j ≤ k) × (i + j < n + k) × Sinks n (now order) ⌝ }
     ensures { λ r. ⌜ Takes n k (λ v. getD (now (weights .entry)) v (pos 0)) (λ q. getD (now (order .entry)) q 0) i j (r .vertex) (r .sinks) (r .branches) ⌝ }
 {

@@ -81,8 +81,8 @@ module _ (o : ℕ → ℤ) (l : List ℕ) (once : (u : ℕ) → count u l ≤ 1)
       go (inl z) = z
       go (inr d) =
           absurd (asym o
-            (s .1 .0 y (omega (arith, e y, delta-ne y a (λ z. yx (z ∙ q)), delta-ne y c (λ z. d (sym z)))))
-            (y-next c (omega (arith, e c, delta-self c)) other d))
+          (s .1 .0 y (omega (arith, e y, delta-ne y a (λ z. yx (z ∙ q)), delta-ne y c (λ z. d (sym z)))))
+          (y-next c (omega (arith, e c, delta-self c)) other d))
 
 -- ---- the free vertices
 
@@ -130,9 +130,9 @@ module _ (m : ℕ) (J : Joining) (x y : ℕ) (x-in : (1 ≤ x) × (x ≤ m) × (
   pub first-two : (getD (waiting m J) 0 0 ≡ x) × (getD (waiting m J) 1 0 ≡ y)
   unfolding l
   first-two = (
-      first-of (key (J .totals)) l (free-once m (J .parents)) x inx fx (waiting m J) sorted same,
-      second-of (key (J .totals)) l (free-once m (J .parents)) x inx fx y apart iny fy (waiting m J) sorted same,
-    )
+    first-of (key (J .totals)) l (free-once m (J .parents)) x inx fx (waiting m J) sorted same,
+    second-of (key (J .totals)) l (free-once m (J .parents)) x inx fx y apart iny fy (waiting m J) sorted same,
+  )
     where
       inx : count x l ≢ 0
       inx = free-in m (J .parents) x (x-in .0) (x-in .1) (x-in .2)

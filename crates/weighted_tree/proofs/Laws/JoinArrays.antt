@@ -5,7 +5,7 @@ use mathlib.Core.Logic.{_≢_, _⊎_, inl, inr}
 use mathlib.Core.List.{List, map}
 use native.Mathlib.Omega.{arith}
 use lib.ListN.{length, getD, set, take, replicate, length-set, length-append, length-replicate, List·getD-append}
-use lib.Seq.{ext-getD, getD-set-same, getD-set-other, getD-take, length-take-le}
+use lib.Seq.{ext-getD, getD-set-same, getD-set-other, getD-take}
 use lib.IntN.{ℤ, pos}
 use Rattle.quantities.specs.Inner.Linear.{whole, up}
 use Rattle.tree.specs.Lists.{count, range}
@@ -26,7 +26,7 @@ use Rattle.tree.proofs.Laws.Planning.Earlier.{says}
 use Rattle.tree.proofs.Laws.Planning.BeforeSettling.{sort-count, sort-length}
 use Rattle.tree.proofs.Laws.Planning.OneOrder.{LowerOwn, Sorted, sort-sorted}
 use Rattle.weighted_tree.specs.Joining.{Joining, waiting, joinTwo, joinNext, unjoined, joinedAfter, joinedParents}
-use Rattle.weighted_tree.specs.Inner.Arrays.{Waits, Takes, Lower, Queues, Joined}
+use Rattle.weighted_tree.specs.Inner.Arrays.{Takes, Lower, Queues, Joined}
 use Rattle.weighted_tree.proofs.Laws.FirstTwo.{before, sorted-at, place-of, first-two}
 use Rattle.weighted_tree.proofs.Laws.Queues.{Stored, taken-more, apart, x-free, y-free, x-first, y-next, joined-queues}
 use Rattle.weighted_tree.proofs.Laws.Assumed.{totals-fit}
@@ -40,12 +40,8 @@ module _ (n k i : ℕ) (J : Joining) (ws : List ℤ) (os ps : List ℕ) (held : 
   abbrev sinkOf : ℕ → ℕ
   sinkOf q = getD os q 0
 
-  -- the queues are not empty
-  pub some-wait : (i ≤ 2 * k) × (i ≤ n) × (2 * k - i ≤ k) × (i + (2 * k - i) < n + k)
-  some-wait = omega (arith, held .queues .two-each, held .queues .sinks-taken, held .queues .branches-taken)
-
   module _ (x i₁ j₁ : ℕ) (one : Takes n k keyAt sinkOf i (2 * k - i) x i₁ j₁) where
-    -- nor are they when one is taken
+    -- the queues are not empty when one is taken
     pub more-wait : (i₁ ≤ n) × (j₁ ≤ k) × (i₁ + j₁ < n + k)
     more-wait =
         omega (
@@ -205,15 +201,15 @@ module _ (n : ℕ) (ws : List ℤ) (os ps : List ℕ) (some : 1 ≤ n) (held : H
   unfolding line
   line-count y = sort-count (earlierBy ws) (range 1 n) y
 
-  pub order-sinks : (q : ℕ) → q < n → (1 ≤ getD os q 0) × (getD os q 0 ≤ n)
-  order-sinks q h =
+  line-sinks : (q : ℕ) → q < n → (1 ≤ getD os q 0) × (getD os q 0 ≤ n)
+  line-sinks q h =
       let c : count (getD line q 0) line ≢ 0 = somewhere line q (omega (arith, line-long)) in
       let d : (0 < getD line q 0) × (getD line q 0 ≤ 0 + n) = down-in 0 n (getD line q 0) (omega (arith, line-count (getD line q 0), range-count n (getD line q 0))) in
       omega (arith, order-at q h)
 
   start-queues : Queues n 0 0 (2 * 0 - 0) (weightOf (unjoined n w .totals)) (parentOf (unjoined n w .parents)) (λ (q : ℕ). getD os q 0)
   start-queues = record {
-    lines = record { sinks = order-sinks; sinks-rise = rise; branches-rise = λ b c h g l. absurd (omega arith) };
+    lines = record { sinks = line-sinks; sinks-rise = rise; branches-rise = λ b c h g l. absurd (omega arith) };
     sinks-taken = omega arith;
     branches-taken = omega arith;
     two-each = refl;
@@ -227,8 +223,8 @@ module _ (n : ℕ) (ws : List ℤ) (os ps : List ℕ) (some : 1 ≤ n) (held : H
       rise q r h g =
           let l : LowerOwn o (getD line q 0) (getD line r 0) = sorted-at o line line-sorted q r h (omega (arith, line-long)) in
           let m : LowerOwn o (getD os q 0) (getD os r 0) = subst (λ (u : ℕ). LowerOwn o u (getD os r 0)) (sym (order-at q (omega arith))) (subst (LowerOwn o (getD line q 0)) (sym (order-at r g)) l) in
-          let a = key-is (getD os q 0) (order-sinks q (omega arith) .0) (order-sinks q (omega arith) .1) in
-          let b = key-is (getD os r 0) (order-sinks r g .0) (order-sinks r g .1) in
+          let a = key-is (getD os q 0) (line-sinks q (omega arith) .0) (line-sinks q (omega arith) .1) in
+          let b = key-is (getD os r 0) (line-sinks r g .0) (line-sinks r g .1) in
           (omega (arith, whole, m .le, a, b), λ e. m .tie (a ∙ ap pos e ∙ sym b))
 
       waits : (u : ℕ) → 1 ≤ u → u ≤ n → (q : ℕ) × (0 ≤ q) × (q < n) × (getD os q 0 ≡ u)

@@ -1,7 +1,7 @@
 -- The joined tree in the arrays of a net: each parent has the higher number, so the vertices by number go up the tree and down; settled, it is held.
-use Prim.Native.Nat.{ℕ, zero, suc, _+_, _*_, _-_, _≤_, _<_}
+use Prim.Native.Nat.{ℕ, zero, suc, _*_, _-_, _≤_, _<_}
 use mathlib.Core.Path.{_≡_, sym, ap, _∙_, subst}
-use mathlib.Core.Logic.{_≢_, _⊎_, inl, inr}
+use mathlib.Core.Logic.{_⊎_, inl, inr}
 use mathlib.Core.List.{List}
 use native.Mathlib.Omega.{arith}
 use lib.ListN.{length, getD}
@@ -20,10 +20,10 @@ use Rattle.weighted_tree.specs.Joining.{joinedParents, weightedTree}
 use Rattle.weighted_tree.proofs.Laws.Assumed.{joined-legal, joined-rising}
 
 module _ (n : ℕ) (w : List ℕ) (some : 1 ≤ n) (few : n ≤ sinkLimit) (ps : List ℕ) (long : 2 * n ≤ length ps) (joined : parentsOf n ps ≡ joinedParents n w) where
-  pub made-legal : Legal n (parentsOf n ps)
+  made-legal : Legal n (parentsOf n ps)
   made-legal = subst (λ (P : List ℕ). Legal n P) (sym joined) (joined-legal n w some)
 
-  pub made-parents : Parents n ps
+  made-parents : Parents n ps
   made-parents = record { some = some; few = few; long = long; inside = inside }
     where
       inside : (v : ℕ) → 1 ≤ v → v < 2 * n → getD ps v 0 < 2 * n
@@ -42,13 +42,18 @@ module _ (n : ℕ) (w : List ℕ) (some : 1 ≤ n) (few : n ≤ sinkLimit) (ps :
       go (inl z) = inl (sym e ∙ z)
       go (inr r) = inr (omega (arith, e, r .0))
 
-  pub numbers-up : (order : List ℕ) → ((i : ℕ) → i < 2 * n - 1 → getD order i 0 ≡ suc i) → LeavesUp (UnderRoot n) (2 * n - 1) ps order
-  numbers-up order at = record {
-    inside = λ i l. omega (arith, at i l);
-    all = λ v u. (v - 1, omega (arith, u), at (v - 1) (omega (arith, u)) ∙ omega (arith, u));
-    once = λ h i p q e. omega (arith, at h p, at i q);
-    before = λ h i p q e. up h i p q (ap (λ (v : ℕ). getD ps v 0) (sym (at h p)) ∙ e ∙ at i q) (rises (suc h) (omega arith) (omega arith));
-  }
+  -- so it can be settled
+  pub numbers-up : (order : List ℕ) → ((i : ℕ) → i < 2 * n - 1 → getD order i 0 ≡ suc i) → Parents n ps × Legal n (parentsOf n ps) × LeavesUp (UnderRoot n) (2 * n - 1) ps order
+  numbers-up order at = (
+    made-parents,
+    made-legal,
+    record {
+      inside = λ i l. omega (arith, at i l);
+      all = λ v u. (v - 1, omega (arith, u), at (v - 1) (omega (arith, u)) ∙ omega (arith, u));
+      once = λ h i p q e. omega (arith, at h p, at i q);
+      before = λ h i p q e. up h i p q (ap (λ (v : ℕ). getD ps v 0) (sym (at h p)) ∙ e ∙ at i q) (rises (suc h) (omega arith) (omega arith));
+    },
+  )
     where
       up : (h i : ℕ) → h < 2 * n - 1 → i < 2 * n - 1 → getD ps (suc h) 0 ≡ suc i → (getD ps (suc h) 0 ≡ 0) ⊎ (suc h < getD ps (suc h) 0) → h < i
       up h i p q e (inl z) = absurd (omega arith)
@@ -80,7 +85,7 @@ module _ (n : ℕ) (w : List ℕ) (some : 1 ≤ n) (few : n ≤ sinkLimit) (ps :
     abbrev N : Net
     N = netOf h n xs ys rs
 
-    pub same-net : netOf h n xs′ ys′ rs ≡ N
+    same-net : netOf h n xs′ ys′ rs ≡ N
     same-net = λ i. record {
       root = kept 0 (omega arith) i;
       branch = N .branch;
@@ -92,21 +97,22 @@ module _ (n : ℕ) (w : List ℕ) (some : 1 ≤ n) (few : n ≤ sinkLimit) (ps :
         sinkOf : List ℤ → List ℤ → ℕ → Sink
         sinkOf xs ys s = record { point = pointAt xs ys s; required = getD rs s (pos 0) }
 
-    pub made-tree : treeOf n ps xs′ ys′ ≡ weightedTree N w
+    pub made-tree : (netOf h n xs′ ys′ rs ≡ N) × (treeOf n ps xs′ ys′ ≡ weightedTree N w)
     unfolding weightedTree
-    made-tree = settled ∙ ap (settledTree N) (joined ∙ ap (λ (m : ℕ). joinedParents m w) (sym (size-is h n xs ys rs)))
+    made-tree = (same-net, settled ∙ ap (settledTree N) (joined ∙ ap (λ (m : ℕ). joinedParents m w) (sym (size-is h n xs ys rs))))
 
     near : (v : ℕ) → v < 2 * n → PointWithin positionLimit (pointAt xs′ ys′ v)
     near v l =
         subst (PointWithin positionLimit) (sym (λ i. place (same-net i) (settled i) v) ∙ place-at h n xs′ ys′ rs ps v l)
         (settled-within N (held .in-range) (parentsOf n ps) (subst (λ (m : ℕ). Legal m (parentsOf n ps)) (sym (size-is h n xs ys rs)) made-legal) v (omega (arith, size-is h n xs ys rs)))
 
-    pub made-holds : HoldsTree n ps xs′ ys′
-    made-holds = record { parents-in = made-parents; points-in = record { xs-long = xs-long; ys-long = ys-long; near = near } }
-
-    pub made-net : HoldsNet h n xs′ ys′ rs
-    made-net = record {
-      points = record { xs-long = omega arith; ys-long = omega arith; near = λ v l. near v (omega arith) };
-      required-long = held .required-long;
-      in-range = subst InRange (sym same-net) (held .in-range);
-    }
+    -- so it can be measured
+    pub made-holds : HoldsNet h n xs′ ys′ rs × HoldsTree n ps xs′ ys′
+    made-holds = (
+      record {
+        points = record { xs-long = omega arith; ys-long = omega arith; near = λ v l. near v (omega arith) };
+        required-long = held .required-long;
+        in-range = subst InRange (sym same-net) (held .in-range);
+      },
+      record { parents-in = made-parents; points-in = record { xs-long = xs-long; ys-long = ys-long; near = near } },
+    )

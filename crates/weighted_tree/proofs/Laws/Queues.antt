@@ -1,9 +1,8 @@
 -- Two queues, each in order: what is taken goes before all that wait, and joining the two that are taken first keeps both in order. Assumes nothing.
 use Prim.Native.Nat.{ℕ, suc, _+_, _*_, _≤_, _<_}
-use mathlib.Core.Path.{_≡_, sym, ap, ap₂, _∙_, subst}
+use mathlib.Core.Path.{_≡_, sym, ap, _∙_, subst}
 use mathlib.Core.Bool.{Bool, true, false, cond}
 use mathlib.Core.Logic.{_≢_, _⊎_, inl, inr}
-use native.Mathlib.Decide.{decLe}
 use native.Mathlib.Omega.{arith}
 use lib.IntN.{ℤ, pos}
 use lib.Signed.{_≤ℤ_, _<ℤ_, leZ}
@@ -30,7 +29,7 @@ module _ (n k : ℕ) (o : ℕ → ℤ) (O : ℕ → ℕ) (i j : ℕ) where
 
 module _ (n k : ℕ) (W O : ℕ → ℕ) (L : Lines n k W O) (o : ℕ → ℤ) (same : (v : ℕ) → 1 ≤ v → v ≤ n + k → o v ≡ pos (W v)) (i j v i′ j′ : ℕ) where
   -- it waited, and one more has been taken
-  pub taken-waits : Takes n k o O i j v i′ j′ → Waits n k O i j v
+  taken-waits : Takes n k o O i j v i′ j′ → Waits n k O i j v
   taken-waits (inl t) = inl (i, omega arith, t .0 .0, sym (t .1))
   taken-waits (inr t) = inr (omega (arith, t .0 .0, t .1), omega (arith, t .0 .0, t .1))
 
@@ -39,7 +38,7 @@ module _ (n k : ℕ) (W O : ℕ → ℕ) (L : Lines n k W O) (o : ℕ → ℤ) (
   taken-more (inr t) a b = omega (arith, t .0 .0, t .2, t .3)
 
   -- those that wait are it and those that wait then
-  pub still-waits : Takes n k o O i j v i′ j′ → (u : ℕ) → Waits n k O i j u → u ≢ v → Waits n k O i′ j′ u
+  still-waits : Takes n k o O i j v i′ j′ → (u : ℕ) → Waits n k O i j u → u ≢ v → Waits n k O i′ j′ u
   still-waits (inl t) u (inl h) d =
       let ne : i ≢ h .0 = λ e. d (sym (h .3) ∙ ap O (sym e) ∙ sym (t .1)) in
       inl (h .0, omega (arith, h .1, t .2), h .2, h .3)
@@ -47,13 +46,13 @@ module _ (n k : ℕ) (W O : ℕ → ℕ) (L : Lines n k W O) (o : ℕ → ℤ) (
   still-waits (inr t) u (inl h) d = inl (h .0, omega (arith, h .1, t .2), h .2, h .3)
   still-waits (inr t) u (inr h) d = inr (omega (arith, h .0, t .3, t .1), h .1)
 
-  pub waited : Takes n k o O i j v i′ j′ → (u : ℕ) → Waits n k O i′ j′ u → Waits n k O i j u
+  waited : Takes n k o O i j v i′ j′ → (u : ℕ) → Waits n k O i′ j′ u → Waits n k O i j u
   waited (inl t) u (inl h) = inl (h .0, omega (arith, h .1, t .2), h .2, h .3)
   waited (inl t) u (inr h) = inr (omega (arith, h .0, t .3), h .1)
   waited (inr t) u (inl h) = inl (h .0, omega (arith, h .1, t .2), h .2, h .3)
   waited (inr t) u (inr h) = inr (omega (arith, h .0, t .3), h .1)
 
-  pub other-waits : Takes n k o O i j v i′ j′ → (u : ℕ) → Waits n k O i′ j′ u → u ≢ v
+  other-waits : Takes n k o O i j v i′ j′ → (u : ℕ) → Waits n k O i′ j′ u → u ≢ v
   other-waits (inl t) u (inl h) e =
       let r : Lower W (O i) (O (h .0)) = L .sinks-rise i (h .0) (omega (arith, h .1, t .2)) (h .2) in
       let z : O i ≡ O (h .0) = sym (t .1) ∙ sym e ∙ sym (h .3) in
@@ -63,7 +62,7 @@ module _ (n k : ℕ) (W O : ℕ → ℕ) (L : Lines n k W O) (o : ℕ → ℤ) (
   other-waits (inr t) u (inr h) e = omega (arith, h .0, t .3, t .1)
 
   -- it goes before all others
-  pub taken-first : Takes n k o O i j v i′ j′ → (u : ℕ) → Waits n k O i j u → u ≢ v → Lower W v u
+  taken-first : Takes n k o O i j v i′ j′ → (u : ℕ) → Waits n k O i j u → u ≢ v → Lower W v u
   taken-first (inl t) u (inl h) d =
       let ne : i ≢ h .0 = λ e. d (sym (h .3) ∙ ap O (sym e) ∙ sym (t .1)) in
       let l : i < h .0 = omega (arith, h .1) in

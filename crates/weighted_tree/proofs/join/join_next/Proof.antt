@@ -1,5 +1,5 @@
 -- The two that are taken are vertices, their total weight fits, and the stores are those of one join (JoinArrays). No loop.
-use Prim.Native.Nat.{suc, _+_, _*_, _≤_, _<_}
+use Prim.Native.Nat.{_+_, _*_, _≤_, _<_}
 use mathlib.Core.Path.{_≡_, refl, sym, ap₂, _∙_, subst}
 use native.Mathlib.Omega.{arith}
 use lib.ListN.{getD, length-set}
@@ -10,7 +10,7 @@ use mir.Facts.{toZ-ofZ}
 use Rattle.quantities.specs.Inner.Linear.{whole, fit}
 use Rattle.tree.specs.Weights.{weightOf}
 use Rattle.weighted_tree.specs.Joining.{joinedAfter}
-use Rattle.weighted_tree.proofs.Laws.JoinArrays.{some-wait, more-wait, next-in, next-total, next-fits, next-joined}
+use Rattle.weighted_tree.proofs.Laws.JoinArrays.{more-wait, next-in, next-total, next-fits, next-joined}
 use borrow.Author.Needs.{needs}
 use Rattle.weighted_tree.proofs.join.join_next.Statement.{statement}
 use Rattle.weighted_tree.proofs.join.join_next.Tie as tie

@@ -1,11 +1,10 @@
 -- The sinks are ordered and joined; by number the vertices go up the joined tree and down, so it is settled and measured. No loop.
-use mathlib.Core.Path.{_≡_, _∙_}
+use mathlib.Core.Path.{_∙_}
 use native.Mathlib.Omega.{arith}
 use Rattle.tree.specs.Measures.{worstSlack, wireLength}
-use Rattle.tree.specs.Inner.Arrays.{netOf, weightsOf, treeOf, HoldsNet, HoldsTree}
+use Rattle.tree.specs.Inner.Arrays.{weightsOf}
 use Rattle.tree.proofs.Laws.Arrays.PlanArrays.{some-few}
-use Rattle.weighted_tree.specs.Joining.{weightedTree}
-use Rattle.weighted_tree.proofs.Laws.Numbering.{made-legal, made-parents, numbers-up, numbers-down, same-net, made-tree, made-holds, made-net}
+use Rattle.weighted_tree.proofs.Laws.Numbering.{numbers-up, numbers-down, made-tree, made-holds}
 use borrow.Author.Needs.{needs}
 use Rattle.weighted_tree.proofs.make.make.Statement.{statement}
 use Rattle.weighted_tree.proofs.make.make.Tie as tie
@@ -45,7 +44,7 @@ settle-requires c κs =
     let o = c .before .before .before .before .before .before .before .before .before .before .before .before .before .before .before .before .before .before .order-by in
     let j = c .before .before .before .before .before .before .before .before .before .before .before .before .join-all in
     let u = c .before .before .before .before .before .before .before .number-up in
-    ((made-parents (a .n) (weightsOf (a .n) (a .weights .now)) (f .0) (f .1) (j .last .1 .1 .1 .0) (omega (arith, r .parents-long, j .kept .1 .1 .1 .0)) (j .ensures), made-legal (a .n) (weightsOf (a .n) (a .weights .now)) (f .0) (f .1) (j .last .1 .1 .1 .0) (omega (arith, r .parents-long, j .kept .1 .1 .1 .0)) (j .ensures), numbers-up (a .n) (weightsOf (a .n) (a .weights .now)) (f .0) (f .1) (j .last .1 .1 .1 .0) (omega (arith, r .parents-long, j .kept .1 .1 .1 .0)) (j .ensures) (u .last .1 .0) (u .ensures)), (omega (arith, r .order-long, o .kept .1 .1 .0, u .kept .1 .0), r .xs-long, r .ys-long, r .room-long))
+    (numbers-up (a .n) (weightsOf (a .n) (a .weights .now)) (f .0) (f .1) (j .last .1 .1 .1 .0) (omega (arith, r .parents-long, j .kept .1 .1 .1 .0)) (j .ensures) (u .last .1 .0) (u .ensures), (omega (arith, r .order-long, o .kept .1 .1 .0, u .kept .1 .0), r .xs-long, r .ys-long, r .room-long))
 
 number-down-requires : tie.Need-number-down-requires
 number-down-requires c κs =
@@ -68,7 +67,8 @@ measure-tree-requires c κs =
     let u = c .before .before .before .before .before .before .before .before .before .before .before .before .before .before .before .before .before .before .before .before .before .number-up in
     let m = c .before .before .before .before .before .before .before .before .before .before .before .before .before .settle in
     let d = c .before .before .before .before .before .before .before .number-down in
-    (made-net (a .n) (weightsOf (a .n) (a .weights .now)) (f .0) (f .1) (j .last .1 .1 .1 .0) (omega (arith, r .parents-long, j .kept .1 .1 .1 .0)) (j .ensures) (a .h) (a .xs .now) (a .ys .now) (a .required .now) (m .last .1 .1 .1 .0) (m .last .1 .1 .1 .1 .0) (s .pre .0 .0) (omega (arith, r .xs-long, m .kept .1 .1 .1 .0)) (omega (arith, r .ys-long, m .kept .1 .1 .1 .1 .0)) (m .ensures .0 (a .h) (a .required .now)) (m .ensures .1), made-holds (a .n) (weightsOf (a .n) (a .weights .now)) (f .0) (f .1) (j .last .1 .1 .1 .0) (omega (arith, r .parents-long, j .kept .1 .1 .1 .0)) (j .ensures) (a .h) (a .xs .now) (a .ys .now) (a .required .now) (m .last .1 .1 .1 .0) (m .last .1 .1 .1 .1 .0) (s .pre .0 .0) (omega (arith, r .xs-long, m .kept .1 .1 .1 .0)) (omega (arith, r .ys-long, m .kept .1 .1 .1 .1 .0)) (m .ensures .0 (a .h) (a .required .now)) (m .ensures .1), numbers-down (a .n) (weightsOf (a .n) (a .weights .now)) (f .0) (f .1) (j .last .1 .1 .1 .0) (omega (arith, r .parents-long, j .kept .1 .1 .1 .0)) (j .ensures) (d .last .1 .0) (omega (arith, r .order-long, o .kept .1 .1 .0, u .kept .1 .0, d .kept .1 .0)) (d .ensures), r .slacks-long)
+    let q = made-holds (a .n) (weightsOf (a .n) (a .weights .now)) (f .0) (f .1) (j .last .1 .1 .1 .0) (omega (arith, r .parents-long, j .kept .1 .1 .1 .0)) (j .ensures) (a .h) (a .xs .now) (a .ys .now) (a .required .now) (m .last .1 .1 .1 .0) (m .last .1 .1 .1 .1 .0) (s .pre .0 .0) (omega (arith, r .xs-long, m .kept .1 .1 .1 .0)) (omega (arith, r .ys-long, m .kept .1 .1 .1 .1 .0)) (m .ensures .0 (a .h) (a .required .now)) (m .ensures .1) in
+    (q .0, q .1, numbers-down (a .n) (weightsOf (a .n) (a .weights .now)) (f .0) (f .1) (j .last .1 .1 .1 .0) (omega (arith, r .parents-long, j .kept .1 .1 .1 .0)) (j .ensures) (d .last .1 .0) (omega (arith, r .order-long, o .kept .1 .1 .0, u .kept .1 .0, d .kept .1 .0)) (d .ensures), r .slacks-long)
 
 same-length : tie.Need-same-length
 same-length c = search needs
@@ -100,9 +100,8 @@ returns c =
     let j = c .before .before .before .before .before .before .before .before .before .before .before .before .before .before .before .before .before .before .before .before .before .before .before .before .before .before .before .before .join-all in
     let m = c .before .before .before .before .before .before .before .before .before .before .before .before .before .before .before .settle in
     let t = c .before .measure-tree in
-    let tree = made-tree (a .n) (weightsOf (a .n) (a .weights .now)) (f .0) (f .1) (j .last .1 .1 .1 .0) (omega (arith, r .parents-long, j .kept .1 .1 .1 .0)) (j .ensures) (a .h) (a .xs .now) (a .ys .now) (a .required .now) (m .last .1 .1 .1 .0) (m .last .1 .1 .1 .1 .0) (s .pre .0 .0) (omega (arith, r .xs-long, m .kept .1 .1 .1 .0)) (omega (arith, r .ys-long, m .kept .1 .1 .1 .1 .0)) (m .ensures .0 (a .h) (a .required .now)) (m .ensures .1) in
-    let same = same-net (a .n) (weightsOf (a .n) (a .weights .now)) (f .0) (f .1) (j .last .1 .1 .1 .0) (omega (arith, r .parents-long, j .kept .1 .1 .1 .0)) (j .ensures) (a .h) (a .xs .now) (a .ys .now) (a .required .now) (m .last .1 .1 .1 .0) (m .last .1 .1 .1 .1 .0) (s .pre .0 .0) (omega (arith, r .xs-long, m .kept .1 .1 .1 .0)) (omega (arith, r .ys-long, m .kept .1 .1 .1 .1 .0)) (m .ensures .0 (a .h) (a .required .now)) (m .ensures .1) in
-    (tree, (m .ensures .1, (t .ensures .0 ∙ (λ i. worstSlack (same i) (tree i)), t .ensures .1 ∙ (λ i. wireLength (same i) (tree i)))))
+    let q = made-tree (a .n) (weightsOf (a .n) (a .weights .now)) (f .0) (f .1) (j .last .1 .1 .1 .0) (omega (arith, r .parents-long, j .kept .1 .1 .1 .0)) (j .ensures) (a .h) (a .xs .now) (a .ys .now) (a .required .now) (m .last .1 .1 .1 .0) (m .last .1 .1 .1 .1 .0) (s .pre .0 .0) (omega (arith, r .xs-long, m .kept .1 .1 .1 .0)) (omega (arith, r .ys-long, m .kept .1 .1 .1 .1 .0)) (m .ensures .0 (a .h) (a .required .now)) (m .ensures .1) in
+    (q .1, (m .ensures .1, (t .ensures .0 ∙ (λ i. worstSlack (q .0 i) (q .1 i)), t .ensures .1 ∙ (λ i. wireLength (q .0 i) (q .1 i)))))
 
 pub make-spec : {M : Type 1} → statement M
 make-spec =
