@@ -39,6 +39,7 @@ struct Taken {
     branches: usize,
 }
 
+// The first of the two queues is taken off.
 fn take_first(n: usize, k: usize, weights: &[i64], order: &[usize], i: usize, j: usize) -> Taken
     requires { ⌜ (k < n) × (n ≤ sinkLimit) × (2 * n ≤ length (now weights)) × (n ≤ length (now order)) × (i ≤ n) × (j ≤ k) × (i + j < n + k) × Sinks n (now order) ⌝ }
     ensures { λ r. ⌜ Takes n k (λ v. getD (now (weights .entry)) v (pos 0)) (λ q. getD (now (order .entry)) q 0) i j (r .vertex) (r .sinks) (r .branches) ⌝ }

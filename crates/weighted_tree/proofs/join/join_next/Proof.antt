@@ -22,7 +22,9 @@ inside c =
     let a = s .args in
     let f = c .before .before .take-first in
     let g = c .take-first2 in
-    next-in (a .n) (a .k) (a .i) (joinedAfter (a .n) (s .pre .1 .0) (a .k)) (a .weights .now) (a .order .now) (a .parents .now) (s .pre .1 .1 .1) (s .pre .0 .0) (f .result .vertex) (f .result .sinks) (f .result .branches) (f .ensures) (g .result .vertex) (g .result .sinks) (g .result .branches) (g .ensures)
+    let p = f .result in
+    let q = g .result in
+    next-in (a .n) (a .k) (a .i) (joinedAfter (a .n) (s .pre .1 .0) (a .k)) (a .weights .now) (a .order .now) (a .parents .now) (s .pre .1 .1 .1) (s .pre .0 .0) (p .vertex) (p .sinks) (p .branches) (f .ensures) (q .vertex) (q .sinks) (q .branches) (g .ensures)
 
 mul-take-first : tie.Need-mul-take-first
 mul-take-first c = search needs
@@ -60,15 +62,12 @@ slice-copy-out-weights-2 : tie.Need-slice-copy-out-weights-2
 slice-copy-out-weights-2 c = omega (arith, inside (c .before))
 
 -- the two weights as they are read
-read-back : (c : tie.After-weights2) → (toZ w64 (ofZ w64 (getD (c .before .before .before .before .before .before .before .before .args .weights .now) (c .before .before .before .before .take-first .result .vertex) (pos 0))) ≡ getD (c .before .before .before .before .before .before .before .before .args .weights .now) (c .before .before .before .before .take-first .result .vertex) (pos 0))
-    × (toZ w64 (ofZ w64 (getD (c .before .before .before .before .before .before .before .before .args .weights .now) (c .before .before .take-first2 .result .vertex) (pos 0))) ≡ getD (c .before .before .before .before .before .before .before .before .args .weights .now) (c .before .before .take-first2 .result .vertex) (pos 0))
-read-back c =
-    let a = c .before .before .before .before .before .before .before .before .args in
-    let x = getD (a .weights .now) (c .before .before .before .before .take-first .result .vertex) (pos 0) in
-    let y = getD (a .weights .now) (c .before .before .take-first2 .result .vertex) (pos 0) in
-    let f : SFits w64 x = fit x (c .before .weights .given) in
-    let g : SFits w64 y = fit y (c .weights2 .given) in
-    (toZ-ofZ f, toZ-ofZ g)
+read-back : (c : tie.After-weights2) →
+    let ws = c .before .before .before .before .before .before .before .before .args .weights .now in
+    let x = getD ws (c .before .before .before .before .take-first .result .vertex) (pos 0) in
+    let y = getD ws (c .before .before .take-first2 .result .vertex) (pos 0) in
+    (toZ w64 (ofZ w64 x) ≡ x) × (toZ w64 (ofZ w64 y) ≡ y)
+read-back c = (toZ-ofZ (fit _ (c .before .weights .given)), toZ-ofZ (fit _ (c .weights2 .given)))
 
 add-weights : tie.Need-add-weights
 add-weights c =
@@ -76,11 +75,13 @@ add-weights c =
     let a = s .args in
     let f = c .before .before .before .before .take-first in
     let g = c .before .before .take-first2 in
-    let x = f .result .vertex in
-    let y = g .result .vertex in
+    let p = f .result in
+    let q = g .result in
+    let x = p .vertex in
+    let y = q .vertex in
     let W = weightOf (joinedAfter (a .n) (s .pre .1 .0) (a .k) .totals) in
-    let t = next-total (a .n) (a .k) (a .i) (joinedAfter (a .n) (s .pre .1 .0) (a .k)) (a .weights .now) (a .order .now) (a .parents .now) (s .pre .1 .1 .1) (s .pre .0 .0) (f .result .vertex) (f .result .sinks) (f .result .branches) (f .ensures) (g .result .vertex) (g .result .sinks) (g .result .branches) (g .ensures) in
-    let l = next-fits (a .n) (a .k) (a .i) (joinedAfter (a .n) (s .pre .1 .0) (a .k)) (a .weights .now) (a .order .now) (a .parents .now) (s .pre .1 .1 .1) (s .pre .0 .0) (f .result .vertex) (f .result .sinks) (f .result .branches) (f .ensures) (g .result .vertex) (g .result .sinks) (g .result .branches) (g .ensures) (s .pre .1 .0) refl (s .pre .1 .1 .0) (s .pre .0 .1) in
+    let t = next-total (a .n) (a .k) (a .i) (joinedAfter (a .n) (s .pre .1 .0) (a .k)) (a .weights .now) (a .order .now) (a .parents .now) (s .pre .1 .1 .1) (s .pre .0 .0) (p .vertex) (p .sinks) (p .branches) (f .ensures) (q .vertex) (q .sinks) (q .branches) (g .ensures) in
+    let l = next-fits (a .n) (a .k) (a .i) (joinedAfter (a .n) (s .pre .1 .0) (a .k)) (a .weights .now) (a .order .now) (a .parents .now) (s .pre .1 .1 .1) (s .pre .0 .0) (p .vertex) (p .sinks) (p .branches) (f .ensures) (q .vertex) (q .sinks) (q .branches) (g .ensures) (s .pre .1 .0) refl (s .pre .1 .1 .0) (s .pre .0 .1) in
     let h : SFits w64 (pos (W x + W y)) = omega (arith, whole, l) in
     subst (SFits w64) (sym (ap₂ _+ℤ_ (read-back c .0 ∙ t .0) (read-back c .1 ∙ t .1))) h
 
@@ -114,9 +115,11 @@ returns c = λ w r held.
     let a = s .args in
     let f = c .before .before .before .before .take-first in
     let g = c .before .before .take-first2 in
+    let p = f .result in
+    let q = g .result in
     let b = a .n + a .k + 1 in
-    let t = next-total (a .n) (a .k) (a .i) (joinedAfter (a .n) w (a .k)) (a .weights .now) (a .order .now) (a .parents .now) held (s .pre .0 .0) (f .result .vertex) (f .result .sinks) (f .result .branches) (f .ensures) (g .result .vertex) (g .result .sinks) (g .result .branches) (g .ensures) in
-    next-joined (a .n) (a .k) (a .i) (joinedAfter (a .n) w (a .k)) (a .weights .now) (a .order .now) (a .parents .now) held (s .pre .0 .0) (f .result .vertex) (f .result .sinks) (f .result .branches) (f .ensures) (g .result .vertex) (g .result .sinks) (g .result .branches) (g .ensures)
+    let t = next-total (a .n) (a .k) (a .i) (joinedAfter (a .n) w (a .k)) (a .weights .now) (a .order .now) (a .parents .now) held (s .pre .0 .0) (p .vertex) (p .sinks) (p .branches) (f .ensures) (q .vertex) (q .sinks) (q .branches) (g .ensures) in
+    next-joined (a .n) (a .k) (a .i) (joinedAfter (a .n) w (a .k)) (a .weights .now) (a .order .now) (a .parents .now) held (s .pre .0 .0) (p .vertex) (p .sinks) (p .branches) (f .ensures) (q .vertex) (q .sinks) (q .branches) (g .ensures)
     (s .pre .0 .4) (s .pre .0 .2) b (omega arith) _ (toZ-ofZ (add-weights c) ∙ ap₂ _+ℤ_ (read-back c .0 ∙ t .0) (read-back c .1 ∙ t .1))
 
 pub join-next-spec : {M : Type 1} → statement M
