@@ -44,7 +44,7 @@ pub record Lines (n k : ℕ) (W O : ℕ → ℕ) : Type 0 where
   pub sinks-rise : (q r : ℕ) → q < r → r < n → Lower W (O q) (O r)
   pub branches-rise : (b c : ℕ) → n < b → b ≤ c → c ≤ n + k → W b ≤ W c
 
--- what waits is what has no parent yet, p v being the parent of v; no branch point weighs more than two that wait
+-- what waits is what has no parent yet, p v being the parent of v; no branch point weighs more than twice one that waits
 pub record Queues (n k i j : ℕ) (W p O : ℕ → ℕ) : Type 0 where
   pub lines : Lines n k W O
   pub sinks-taken : i ≤ n
