@@ -7,9 +7,9 @@ pub mod Joins
 pub mod Fits
 pub mod LeastWeighted
 pub mod Ranges
-pub mod Marked
 pub mod FirstTwo
 pub mod Queues
-pub mod Assumed
 pub mod JoinArrays
 pub mod Numbering
+pub mod ThirdPlan
+pub mod Marked

@@ -48,7 +48,7 @@ fn plan_rest(
         xs,
         ys,
         required,
-        slacks,
+        weights,
     ) {
         return PlanAnswer::PlanRefused { refusal };
     }

@@ -9,16 +9,16 @@ use lib.IntN.{ℤ, pos}
 use Rattle.quantities.specs.Ranges.{PointWithin}
 use Rattle.tree.specs.declared.header.Header.{Header}
 use Rattle.tree.specs.Net.{Sink}
-use Rattle.tree.specs.Limits.{positionLimit, sinkLimit, InRange}
-use Rattle.tree.specs.Inner.Arrays.{pointAt, netOf, treeOf, HoldsNet, HoldsTree}
+use Rattle.tree.specs.Limits.{positionLimit, sinkLimit, InRange, WeightsInRange}
+use Rattle.tree.specs.Inner.Arrays.{pointAt, netOf, weightsOf, treeOf, HoldsNet, HoldsWeights, HoldsTree}
 use Rattle.tree.proofs.Laws.Lists.Tables.{table-at, table-cong}
 use Rattle.tree.proofs.Laws.Arrays.NetAndTree.{size-is, sink-at, parents-at, parents-length}
 use Rattle.tree.proofs.Laws.Arrays.PlanArrays.{some-few}
 use Rattle.formats.specs.Outcome.{value}
-use Rattle.formats.specs.Reading.Nets.{readNet}
+use Rattle.formats.specs.Reading.Nets.{readWeighted, readNet}
 use Rattle.formats.specs.ListingText.{ListingInRange}
 use Rattle.formats.specs.Reading.Listings.{readListing}
-use Rattle.formats.proofs.Laws.Nets.NetTexts.{net-sound}
+use Rattle.formats.proofs.Laws.Nets.NetTexts.{net-sound, weighted-sound}
 use Rattle.formats.proofs.Laws.Listings.ListingTexts.{listing-sound}
 
 module _ (h : Header) (n : ℕ) (xs ys rs : List ℤ) where
@@ -31,6 +31,11 @@ module _ (h : Header) (n : ℕ) (xs ys rs : List ℤ) where
       near : (v : ℕ) → v < suc n → PointWithin positionLimit (pointAt xs ys v)
       near zero l = in-range .root
       near (suc i) l = subst (PointWithin positionLimit) (sink-at h n xs ys rs (suc i) (omega arith)) (in-range .points (suc i) (omega arith) (omega (arith, size-is h n xs ys rs)))
+
+  pub read-weights-hold : (text : List ℕ) (ws : List ℤ) → readWeighted text ≡ value (record { net = netOf h n xs ys rs; weights = weightsOf n ws }) → n < length ws → HoldsWeights n ws
+  read-weights-hold text ws e p =
+      let f = weighted-sound text (record { net = netOf h n xs ys rs; weights = weightsOf n ws }) e in
+      record { long = p; in-range = subst (λ w. WeightsInRange n w) (f .1) (subst (λ (k : ℕ). WeightsInRange k (f .0 .weights)) (size-is h n xs ys rs) (f .0 .weighed)) }
 
   -- ---- the root and the sinks stand as before
 

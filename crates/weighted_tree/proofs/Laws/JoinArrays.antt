@@ -29,7 +29,7 @@ use Rattle.weighted_tree.specs.Joining.{Joining, waiting, joinTwo, joinN
 use Rattle.weighted_tree.specs.Inner.Arrays.{Takes, Lower, Queues, Joined}
 use Rattle.weighted_tree.proofs.Laws.FirstTwo.{before, sorted-at, place-of, first-two}
 use Rattle.weighted_tree.proofs.Laws.Queues.{Stored, taken-more, apart, x-free, y-free, x-first, y-next, joined-queues}
-use Rattle.weighted_tree.proofs.Laws.Assumed.{totals-fit}
+use Rattle.weighted_tree.proofs.Laws.Fits.{totals-fit}
 
 -- ---- one join
 

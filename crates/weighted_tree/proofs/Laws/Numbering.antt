@@ -17,7 +17,7 @@ use Rattle.tree.proofs.Laws.Lists.Tables.{table-cong}
 use Rattle.tree.proofs.Laws.Arrays.NetAndTree.{size-is, parents-at, place-at}
 use Rattle.tree.proofs.Laws.Measures.FiguresInRange.{settled-within}
 use Rattle.weighted_tree.specs.Joining.{joinedParents, weightedTree}
-use Rattle.weighted_tree.proofs.Laws.Assumed.{joined-legal, joined-rising}
+use Rattle.weighted_tree.proofs.Laws.Joins.{joined-legal, joined-rising}
 
 module _ (n : ℕ) (w : List ℕ) (some : 1 ≤ n) (few : n ≤ sinkLimit) (ps : List ℕ) (long : 2 * n ≤ length ps) (joined : parentsOf n ps ≡ joinedParents n w) where
   made-legal : Legal n (parentsOf n ps)
@@ -33,7 +33,7 @@ module _ (n : ℕ) (w : List ℕ) (some : 1 ≤ n) (few : n ≤ sinkLimit) (ps :
   -- ---- by number
 
   rises : (v : ℕ) → 1 ≤ v → v < 2 * n → (getD ps v 0 ≡ 0) ⊎ (v < getD ps v 0)
-  rises v h l = go (joined-rising n w some v h l)
+  rises v h l = go (joined-rising n w some v h)
     where
       e : parentOf (joinedParents n w) v ≡ getD ps v 0
       e = sym (ap (λ (P : List ℕ). parentOf P v) joined) ∙ parents-at n ps v h l

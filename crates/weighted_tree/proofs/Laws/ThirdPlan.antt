@@ -1,12 +1,16 @@
 -- What request 7 promises of the third plan: from the least sum of weight × delay, the ranges of its tree, and what holds of every plan that ignores need. Assumes nothing.
 use Prim.Native.Nat.{ℕ, zero, suc, _*_}
 use mathlib.Core.Path.{_≡_, refl, ap, subst}
+use mathlib.Core.Bool.{true, false}
 use mathlib.Core.List.{List, map}
+use lib.ListN.{getD}
+use lib.Dec.{leb}
 use lib.IntN.{ℤ}
 use lib.Signed.{_≤ℤ_}
-use Rattle.tree.specs.Net.{Net, size, branchNumbers}
-use Rattle.tree.specs.Tree.{Tree, LegalTree}
-use Rattle.tree.specs.Settling.{settled, settledTree}
+use Rattle.quantities.specs.Median.{medianPoint}
+use Rattle.tree.specs.Net.{Net, size, branchNumbers, sinkAt}
+use Rattle.tree.specs.Tree.{LegalTree}
+use Rattle.tree.specs.Settling.{children, settled}
 use Rattle.formats.specs.NetText.{InFormat}
 use Rattle.formats.specs.ListingText.{Listing, ListingInFormat}
 use Rattle.formats.proofs.Laws.Listings.ListingTexts.{listing-one}
@@ -20,9 +24,17 @@ use Rattle.weighted_tree.proofs.Laws.LeastWeighted.{least-weighted}
 use Rattle.weighted_tree.proofs.Laws.Ranges.{weighted-within, weighted-slack-range, weighted-wire-range, boxed}
 
 -- settling does not look at need
+settled-needless : (t : ℤ) (N : Net) (P : List ℕ) (k v : ℕ) → settled (withNeed t N) P k v ≡ settled N P k v
+settled-needless t N P zero v = refl
+settled-needless t N P (suc k) v =
+    λ i. elim (leb v (size N)) [
+      | true ↦ sinkAt N v
+      | false ↦ medianPoint (N .root) (settled-needless t N P k (getD (children P v) 0 0) i) (settled-needless t N P k (getD (children P v) 1 0) i)
+    ]
+
 needless : (t : ℤ) (N : Net) (w : List ℕ) → weightedTree (withNeed t N) w ≡ weightedTree N w
 unfolding weightedTree
-needless t N w = refl
+needless t N w = λ i. record { parents = joinedParents (size N) w; points = map (λ v. settled-needless t N (joinedParents (size N) w) (2 * size N) v i) (branchNumbers (size N)) }
 
 pub weighted-makes : Makes weightedTree
 weighted-makes = record {
