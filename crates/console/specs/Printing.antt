@@ -13,6 +13,7 @@ use Rattle.formats.specs.Refusals.{told}
 use Rattle.formats.specs.declared.refusal.Told.{Told}
 use Rattle.operations.specs.Answers.{Written, planOf, overwritten, Judgement, judgeOf}
 use Rattle.short_tree.specs.SecondPlan.{shortOf}
+use Rattle.weighted_tree.specs.ThirdPlan.{weightedOf}
 use Rattle.console.specs.Words.{complaint}
 
 -- ---- on standard output
@@ -71,4 +72,5 @@ complaintRoom = 128
 pub record OneAnswer : Type 0 where
   pub plan : (net net′ : List ℕ) (room room′ : ℕ) (r : List ℕ) → planPrinted (planOf net room) ≡ planPrinted (planOf net′ room′) ++ r → r ≡ []
   pub plan-short : (net net′ : List ℕ) (room room′ : ℕ) (r : List ℕ) → planPrinted (shortOf net room) ≡ planPrinted (shortOf net′ room′) ++ r → r ≡ []
+  pub plan-weighted : (net net′ : List ℕ) (room room′ : ℕ) (r : List ℕ) → planPrinted (weightedOf net room) ≡ planPrinted (weightedOf net′ room′) ++ r → r ≡ []
   pub judge : (net listing net′ listing′ : List ℕ) (r : List ℕ) → judgePrinted (judgeOf net listing) ≡ judgePrinted (judgeOf net′ listing′) ++ r → r ≡ []

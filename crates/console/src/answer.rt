@@ -7,6 +7,7 @@ ghost use Rattle.formats.specs.Outcome.{Outcome};
 ghost use Rattle.formats.specs.Refusals.{told};
 ghost use Rattle.operations.specs.Answers.{Written, planOf, bytesOf, overwritten, planAnswer, judgeOf};
 ghost use Rattle.short_tree.specs.SecondPlan.{shortOf};
+ghost use Rattle.weighted_tree.specs.ThirdPlan.{weightedOf};
 ghost use Rattle.console.specs.Words.{complaint};
 ghost use Rattle.console.specs.Printing.{refusalText, planPrinted, judgePrinted, planComplaint, judgeComplaint, Prints, answerRoom, complaintRoom};
 use crate::complain::put_complaint;
@@ -18,6 +19,7 @@ use judging::judge::judge;
 use operations::answers::JudgeAnswer;
 use operations::answers::PlanAnswer;
 use short_tree::plan_short::plan_short;
+use weighted_tree::plan_weighted::plan_weighted;
 
 // Room for every refusal and all measures, and for every complaint where no name has more than 128 bytes.
 pub const ANSWER_LENGTH: usize = 128;
@@ -82,6 +84,17 @@ pub fn print_plan_short(net: &[u8], name: &[u8], out: &mut [u8], err: &mut [u8])
     ensures complaint { λ r. ⌜ Prints (now (err .entry)) (planComplaint (now (name .entry)) (shortOf (now (net .entry)) (length (now (out .entry))))) (r .complaint) (now (err .exit)) ⌝ }
 {
     let answer = plan_short(net, out);
+    print_planned(answer, name, out, err)
+}
+
+// The same for the tree by switching weights.
+pub fn print_plan_weighted(net: &[u8], name: &[u8], out: &mut [u8], err: &mut [u8]) -> Lengths
+    requires out { ⌜ answerRoom ≤ length (now out) ⌝ }
+    requires err { ⌜ length (now name) + complaintRoom ≤ length (now err) ⌝ }
+    ensures answer { λ r. ⌜ Prints (now (out .entry)) (planPrinted (weightedOf (now (net .entry)) (length (now (out .entry))))) (r .answer) (now (out .exit)) ⌝ }
+    ensures complaint { λ r. ⌜ Prints (now (err .entry)) (planComplaint (now (name .entry)) (weightedOf (now (net .entry)) (length (now (out .entry))))) (r .complaint) (now (err .exit)) ⌝ }
+{
+    let answer = plan_weighted(net, out);
     print_planned(answer, name, out, err)
 }
 

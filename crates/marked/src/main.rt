@@ -1,5 +1,5 @@
 // The marked nets and lines that are checked by running the plans and judge: number, text and line of what each returns, and plan's bytes; of the nets of 02's
-// requests 1, 4, 5 and 6 the listing.
+// requests 1, 4, 5, 6 and 7 the listing.
 use first_plan::plan::plan;
 use formats::limits::LISTING_LENGTH_LIMIT;
 use formats::limits::NET_LENGTH_LIMIT;
@@ -10,6 +10,7 @@ use libc::STDOUT_FILENO;
 use operations::answers::JudgeAnswer;
 use operations::answers::PlanAnswer;
 use short_tree::plan_short::plan_short;
+use weighted_tree::plan_weighted::plan_weighted;
 
 fn show_figures(number: u8, text: u8, line: usize, bytes: usize) {
     io::print_decimal(STDOUT_FILENO, number as u64);
@@ -37,7 +38,7 @@ fn show_judgement(net: &[u8], listing: &[u8]) {
 // What judge returns for A and a listing of it.
 fn judge_a(listing: &[u8]) {
     show_judgement(
-        b"root=0,0\nbranch=20\nwire=2,2\nneed=0\nsinks=3\nsink=10,0,100\nsink=4,6,60\nsink=10,10,70\n",
+        b"root=0,0\nbranch=20\nwire=2,2\nneed=0\nsinks=3\nsink=10,0,100,1\nsink=4,6,60,1\nsink=10,10,70,1\n",
         listing,
     );
 }
@@ -94,6 +95,18 @@ fn show_short(net: &[u8]) {
     }
 }
 
+// The same of the tree by switching weights.
+fn show_weighted(net: &[u8]) {
+    let mut out = [0u8; LISTING_LENGTH_LIMIT];
+    match plan_weighted(net, &mut out) {
+        PlanAnswer::Planned { slack, wire, bytes } => {
+            print_listing(&out, bytes);
+            judge_written(net, &out, bytes);
+        }
+        PlanAnswer::PlanRefused { refusal } => show_refusal(refusal),
+    }
+}
+
 fn show_file(name: &[u8]) {
     let fd = os::open_read(name);
     if fd < 0 {
@@ -112,22 +125,22 @@ fn show_lines() {
     show(b"");
     // `branch=0`: 3,1,2.
     show(
-        b"root=0,0\nbranch=0\nwire=2,2\nneed=0\nsinks=3\nsink=10,0,100\nsink=4,6,60\nsink=10,10,70\n",
+        b"root=0,0\nbranch=0\nwire=2,2\nneed=0\nsinks=3\nsink=10,0,100,1\nsink=4,6,60,1\nsink=10,10,70,1\n",
     );
     // `need=-0`: 2,1,4.
     show(
-        b"root=0,0\nbranch=20\nwire=2,2\nneed=-0\nsinks=3\nsink=10,0,100\nsink=4,6,60\nsink=10,10,70\n",
+        b"root=0,0\nbranch=20\nwire=2,2\nneed=-0\nsinks=3\nsink=10,0,100,1\nsink=4,6,60,1\nsink=10,10,70,1\n",
     );
     // A, and A with `need=1`: 5,1,4; judge reads the net and refuses the listing.
     show(
-        b"root=0,0\nbranch=20\nwire=2,2\nneed=0\nsinks=3\nsink=10,0,100\nsink=4,6,60\nsink=10,10,70\n",
+        b"root=0,0\nbranch=20\nwire=2,2\nneed=0\nsinks=3\nsink=10,0,100,1\nsink=4,6,60,1\nsink=10,10,70,1\n",
     );
     show(
-        b"root=0,0\nbranch=20\nwire=2,2\nneed=1\nsinks=3\nsink=10,0,100\nsink=4,6,60\nsink=10,10,70\n",
+        b"root=0,0\nbranch=20\nwire=2,2\nneed=1\nsinks=3\nsink=10,0,100,1\nsink=4,6,60,1\nsink=10,10,70,1\n",
     );
     // `sinks=513`: 3,1,5.
     show(
-        b"root=0,0\nbranch=20\nwire=2,2\nneed=0\nsinks=513\nsink=10,0,100\nsink=4,6,60\nsink=10,10,70\n",
+        b"root=0,0\nbranch=20\nwire=2,2\nneed=0\nsinks=513\nsink=10,0,100,1\nsink=4,6,60,1\nsink=10,10,70,1\n",
     );
     // 512 sinks pass.
     show_file(b"sinks512.txt");
@@ -137,32 +150,40 @@ fn show_lines() {
 fn show_positions() {
     // X 100000000 passes with a root near enough, else 13.
     show(
-        b"root=60000000,0\nbranch=20\nwire=2,2\nneed=-2000000000000000\nsinks=1\nsink=100000000,0,100\n",
+        b"root=60000000,0\nbranch=20\nwire=2,2\nneed=-2000000000000000\nsinks=1\nsink=100000000,0,100,1\n",
     );
-    show(b"root=0,0\nbranch=20\nwire=2,2\nneed=-2000000000000000\nsinks=1\nsink=100000000,0,100\n");
+    show(
+        b"root=0,0\nbranch=20\nwire=2,2\nneed=-2000000000000000\nsinks=1\nsink=100000000,0,100,1\n",
+    );
     // 100000001: 3, in X and Y of the root and of a sink.
     show(
-        b"root=100000001,0\nbranch=20\nwire=2,2\nneed=-2000000000000000\nsinks=1\nsink=100000000,0,100\n",
+        b"root=100000001,0\nbranch=20\nwire=2,2\nneed=-2000000000000000\nsinks=1\nsink=100000000,0,100,1\n",
     );
     show(
-        b"root=0,-100000001\nbranch=20\nwire=2,2\nneed=-2000000000000000\nsinks=1\nsink=0,-100000000,100\n",
+        b"root=0,-100000001\nbranch=20\nwire=2,2\nneed=-2000000000000000\nsinks=1\nsink=0,-100000000,100,1\n",
     );
-    show(b"root=0,0\nbranch=20\nwire=2,2\nneed=-2000000000000000\nsinks=1\nsink=100000001,0,100\n");
     show(
-        b"root=0,100000000\nbranch=20\nwire=2,2\nneed=-2000000000000000\nsinks=1\nsink=0,100000001,100\n",
+        b"root=0,0\nbranch=20\nwire=2,2\nneed=-2000000000000000\nsinks=1\nsink=100000001,0,100,1\n",
+    );
+    show(
+        b"root=0,100000000\nbranch=20\nwire=2,2\nneed=-2000000000000000\nsinks=1\nsink=0,100000001,100,1\n",
     );
     // 40,000,000 from the root passes, 40,000,001: 13; by X alone, then by X and Y.
-    show(b"root=0,0\nbranch=20\nwire=2,2\nneed=-2000000000000000\nsinks=1\nsink=40000000,0,100\n");
-    show(b"root=0,0\nbranch=20\nwire=2,2\nneed=-2000000000000000\nsinks=1\nsink=40000001,0,100\n");
     show(
-        b"root=-10000000,5000000\nbranch=20\nwire=2,2\nneed=-2000000000000000\nsinks=1\nsink=5000000,-20000000,100\n",
+        b"root=0,0\nbranch=20\nwire=2,2\nneed=-2000000000000000\nsinks=1\nsink=40000000,0,100,1\n",
     );
     show(
-        b"root=-10000000,5000000\nbranch=20\nwire=2,2\nneed=-2000000000000000\nsinks=1\nsink=5000000,-20000001,100\n",
+        b"root=0,0\nbranch=20\nwire=2,2\nneed=-2000000000000000\nsinks=1\nsink=40000001,0,100,1\n",
+    );
+    show(
+        b"root=-10000000,5000000\nbranch=20\nwire=2,2\nneed=-2000000000000000\nsinks=1\nsink=5000000,-20000000,100,1\n",
+    );
+    show(
+        b"root=-10000000,5000000\nbranch=20\nwire=2,2\nneed=-2000000000000000\nsinks=1\nsink=5000000,-20000001,100,1\n",
     );
     // A far pin, then a line that is misspelt: the first line that is refused.
     show(
-        b"root=0,0\nbranch=20\nwire=2,2\nneed=-2000000000000000\nsinks=3\nsink=10,0,100\nsink=0,-40000001,60\nsink=x\n",
+        b"root=0,0\nbranch=20\nwire=2,2\nneed=-2000000000000000\nsinks=3\nsink=10,0,100,1\nsink=0,-40000001,60,1\nsink=x\n",
     );
 }
 
@@ -170,17 +191,17 @@ fn show_positions() {
 fn show_ranges() {
     // Both ends of c, t and a pass: the lowest t is reached, the highest is not (5).
     show(
-        b"root=0,0\nbranch=1\nwire=2,2\nneed=-2000000000000000\nsinks=1\nsink=0,0,-1000000000000000\n",
+        b"root=0,0\nbranch=1\nwire=2,2\nneed=-2000000000000000\nsinks=1\nsink=0,0,-1000000000000000,1\n",
     );
     show(
-        b"root=0,0\nbranch=1000000000\nwire=2,2\nneed=2000000000000000\nsinks=1\nsink=0,0,1000000000000000\n",
+        b"root=0,0\nbranch=1000000000\nwire=2,2\nneed=2000000000000000\nsinks=1\nsink=0,0,1000000000000000,1\n",
     );
     // One past them: 3, as of `branch=0` above.
-    show(b"root=0,0\nbranch=1000000001\nwire=2,2\nneed=0\nsinks=1\nsink=0,0,0\n");
-    show(b"root=0,0\nbranch=20\nwire=2,2\nneed=-2000000000000001\nsinks=1\nsink=0,0,0\n");
-    show(b"root=0,0\nbranch=20\nwire=2,2\nneed=2000000000000001\nsinks=1\nsink=0,0,0\n");
-    show(b"root=0,0\nbranch=20\nwire=2,2\nneed=0\nsinks=1\nsink=0,0,-1000000000000001\n");
-    show(b"root=0,0\nbranch=20\nwire=2,2\nneed=0\nsinks=1\nsink=0,0,1000000000000001\n");
+    show(b"root=0,0\nbranch=1000000001\nwire=2,2\nneed=0\nsinks=1\nsink=0,0,0,1\n");
+    show(b"root=0,0\nbranch=20\nwire=2,2\nneed=-2000000000000001\nsinks=1\nsink=0,0,0,1\n");
+    show(b"root=0,0\nbranch=20\nwire=2,2\nneed=2000000000000001\nsinks=1\nsink=0,0,0,1\n");
+    show(b"root=0,0\nbranch=20\nwire=2,2\nneed=0\nsinks=1\nsink=0,0,-1000000000000001,1\n");
+    show(b"root=0,0\nbranch=20\nwire=2,2\nneed=0\nsinks=1\nsink=0,0,1000000000000001,1\n");
     // A's listing with W and L at their ends: 11, 12; one past them: 3.
     judge_a(
         b"slack=-4000000000000000\nwire=32\nsinks=3\nleaf=1,5\nleaf=2,5\nleaf=3,4\nnode=4,0,4,0\nnode=5,4,4,0\n",
@@ -214,10 +235,10 @@ fn show_nanometres() {
     show_file(b"longest512.txt");
     // A net, and 1,000 times that net.
     show_listing(
-        b"root=-3,2\nbranch=20\nwire=2,6\nneed=-30\nsinks=4\nsink=7,2,40\nsink=1,8,64\nsink=7,8,110\nsink=5,-4,97\n",
+        b"root=-3,2\nbranch=20\nwire=2,6\nneed=-30\nsinks=4\nsink=7,2,40,1\nsink=1,8,64,1\nsink=7,8,110,1\nsink=5,-4,97,1\n",
     );
     show_listing(
-        b"root=-3000,2000\nbranch=20000\nwire=2,6\nneed=-30000\nsinks=4\nsink=7000,2000,40000\nsink=1000,8000,64000\nsink=7000,8000,110000\nsink=5000,-4000,97000\n",
+        b"root=-3000,2000\nbranch=20000\nwire=2,6\nneed=-30000\nsinks=4\nsink=7000,2000,40000,1\nsink=1000,8000,64000,1\nsink=7000,8000,110000,1\nsink=5000,-4000,97000,1\n",
     );
 }
 
@@ -225,53 +246,87 @@ fn show_nanometres() {
 fn show_factors() {
     // One number, three: 2,1,3.
     show(
-        b"root=0,0\nbranch=20\nwire=2\nneed=0\nsinks=3\nsink=10,0,100\nsink=4,6,110\nsink=10,10,150\n",
+        b"root=0,0\nbranch=20\nwire=2\nneed=0\nsinks=3\nsink=10,0,100,1\nsink=4,6,110,1\nsink=10,10,150,1\n",
     );
     show(
-        b"root=0,0\nbranch=20\nwire=2,6,2\nneed=0\nsinks=3\nsink=10,0,100\nsink=4,6,110\nsink=10,10,150\n",
+        b"root=0,0\nbranch=20\nwire=2,6,2\nneed=0\nsinks=3\nsink=10,0,100,1\nsink=4,6,110,1\nsink=10,10,150,1\n",
     );
     // 1 and 10000 pass, 0 and 10001: 3,1,3.
-    show(b"root=0,0\nbranch=20\nwire=1,10000\nneed=-2000000000000000\nsinks=1\nsink=3,4,100\n");
-    show(b"root=0,0\nbranch=20\nwire=10000,1\nneed=-2000000000000000\nsinks=1\nsink=3,4,100\n");
-    show(b"root=0,0\nbranch=20\nwire=0,6\nneed=0\nsinks=1\nsink=3,4,100\n");
-    show(b"root=0,0\nbranch=20\nwire=2,0\nneed=0\nsinks=1\nsink=3,4,100\n");
-    show(b"root=0,0\nbranch=20\nwire=10001,6\nneed=0\nsinks=1\nsink=3,4,100\n");
-    show(b"root=0,0\nbranch=20\nwire=2,10001\nneed=0\nsinks=1\nsink=3,4,100\n");
+    show(b"root=0,0\nbranch=20\nwire=1,10000\nneed=-2000000000000000\nsinks=1\nsink=3,4,100,1\n");
+    show(b"root=0,0\nbranch=20\nwire=10000,1\nneed=-2000000000000000\nsinks=1\nsink=3,4,100,1\n");
+    show(b"root=0,0\nbranch=20\nwire=0,6\nneed=0\nsinks=1\nsink=3,4,100,1\n");
+    show(b"root=0,0\nbranch=20\nwire=2,0\nneed=0\nsinks=1\nsink=3,4,100,1\n");
+    show(b"root=0,0\nbranch=20\nwire=10001,6\nneed=0\nsinks=1\nsink=3,4,100,1\n");
+    show(b"root=0,0\nbranch=20\nwire=2,10001\nneed=0\nsinks=1\nsink=3,4,100,1\n");
     // Both factors, then either alone: three trees.
     show_listing(
-        b"root=0,0\nbranch=20\nwire=2,6\nneed=0\nsinks=3\nsink=10,0,100\nsink=4,6,110\nsink=10,10,150\n",
+        b"root=0,0\nbranch=20\nwire=2,6\nneed=0\nsinks=3\nsink=10,0,100,1\nsink=4,6,110,1\nsink=10,10,150,1\n",
     );
     show_listing(
-        b"root=0,0\nbranch=20\nwire=2,2\nneed=0\nsinks=3\nsink=10,0,100\nsink=4,6,110\nsink=10,10,150\n",
+        b"root=0,0\nbranch=20\nwire=2,2\nneed=0\nsinks=3\nsink=10,0,100,1\nsink=4,6,110,1\nsink=10,10,150,1\n",
     );
     show_listing(
-        b"root=0,0\nbranch=20\nwire=6,6\nneed=0\nsinks=3\nsink=10,0,100\nsink=4,6,110\nsink=10,10,150\n",
+        b"root=0,0\nbranch=20\nwire=6,6\nneed=0\nsinks=3\nsink=10,0,100,1\nsink=4,6,110,1\nsink=10,10,150,1\n",
     );
     // Nearness stays plain: sink 3 joins sink 2, which is 4 nanometres off, and not sink 1, 6 off.
     show_listing(
-        b"root=0,0\nbranch=20\nwire=2,6\nneed=-40\nsinks=3\nsink=10,4,44\nsink=4,0,8\nsink=4,4,32\n",
+        b"root=0,0\nbranch=20\nwire=2,6\nneed=-40\nsinks=3\nsink=10,4,44,1\nsink=4,0,8,1\nsink=4,4,32,1\n",
     );
 }
 
 // Request 6 of 02: A, also with a need that no tree has; ties by sink; the edge above a branch point; ties by lower end; one sink; a far pin: 13,1,6.
 fn show_short_trees() {
     show_short(
-        b"root=0,0\nbranch=20\nwire=2,2\nneed=0\nsinks=3\nsink=10,0,100\nsink=4,6,60\nsink=10,10,70\n",
+        b"root=0,0\nbranch=20\nwire=2,2\nneed=0\nsinks=3\nsink=10,0,100,1\nsink=4,6,60,1\nsink=10,10,70,1\n",
     );
     show_short(
-        b"root=0,0\nbranch=20\nwire=2,2\nneed=1\nsinks=3\nsink=10,0,100\nsink=4,6,60\nsink=10,10,70\n",
+        b"root=0,0\nbranch=20\nwire=2,2\nneed=1\nsinks=3\nsink=10,0,100,1\nsink=4,6,60,1\nsink=10,10,70,1\n",
     );
     show_short(
-        b"root=0,0\nbranch=20\nwire=2,3\nneed=0\nsinks=3\nsink=3,4,60\nsink=2,4,60\nsink=5,0,60\n",
+        b"root=0,0\nbranch=20\nwire=2,3\nneed=0\nsinks=3\nsink=3,4,60,1\nsink=2,4,60,1\nsink=5,0,60,1\n",
     );
     show_short(
-        b"root=0,0\nbranch=20\nwire=2,2\nneed=0\nsinks=3\nsink=10,2,100\nsink=10,-2,100\nsink=5,9,100\n",
+        b"root=0,0\nbranch=20\nwire=2,2\nneed=0\nsinks=3\nsink=10,2,100,1\nsink=10,-2,100,1\nsink=5,9,100,1\n",
     );
     show_short(
-        b"root=0,0\nbranch=20\nwire=2,2\nneed=-40\nsinks=3\nsink=0,0,0\nsink=0,0,0\nsink=0,0,0\n",
+        b"root=0,0\nbranch=20\nwire=2,2\nneed=-40\nsinks=3\nsink=0,0,0,1\nsink=0,0,0,1\nsink=0,0,0,1\n",
     );
-    show_short(b"root=0,0\nbranch=20\nwire=2,2\nneed=0\nsinks=1\nsink=3,4,10\n");
-    show_short(b"root=0,0\nbranch=20\nwire=2,2\nneed=0\nsinks=1\nsink=40000001,0,100\n");
+    show_short(b"root=0,0\nbranch=20\nwire=2,2\nneed=0\nsinks=1\nsink=3,4,10,1\n");
+    show_short(b"root=0,0\nbranch=20\nwire=2,2\nneed=0\nsinks=1\nsink=40000001,0,100,1\n");
+}
+
+// Request 7 of 02: weights 1, 1, 2, 3, 5; ties between sinks and a joined vertex, and among joined ones; A with weights 5, 1, 1, also with a need that no tree has;
+// one sink.
+fn show_weighted_trees() {
+    show_weighted(
+        b"root=0,0\nbranch=20\nwire=2,2\nneed=0\nsinks=5\nsink=8,0,100,1\nsink=8,4,100,1\nsink=2,6,100,2\nsink=-4,2,100,3\nsink=0,-5,100,5\n",
+    );
+    show_weighted(
+        b"root=0,0\nbranch=20\nwire=2,2\nneed=0\nsinks=4\nsink=8,0,100,3\nsink=8,4,100,1\nsink=2,6,100,2\nsink=4,2,100,3\n",
+    );
+    show_weighted(
+        b"root=0,0\nbranch=20\nwire=2,2\nneed=0\nsinks=6\nsink=8,0,100,1\nsink=8,4,100,1\nsink=2,6,100,1\nsink=4,2,100,1\nsink=1,9,100,1\nsink=6,6,100,1\n",
+    );
+    show_weighted(
+        b"root=0,0\nbranch=20\nwire=2,2\nneed=0\nsinks=3\nsink=10,0,100,5\nsink=4,6,60,1\nsink=10,10,70,1\n",
+    );
+    show_weighted(
+        b"root=0,0\nbranch=20\nwire=2,2\nneed=1\nsinks=3\nsink=10,0,100,5\nsink=4,6,60,1\nsink=10,10,70,1\n",
+    );
+    show_weighted(b"root=0,0\nbranch=20\nwire=2,2\nneed=0\nsinks=1\nsink=3,4,10,1000\n");
+}
+
+// Weights at the ends of their range: they pass; one past it: 3,1,6; none, or two: 2,1,6; a far pin: 13,1,6, after 3.
+fn show_weights() {
+    show_weighted(b"root=0,0\nbranch=20\nwire=2,2\nneed=0\nsinks=1\nsink=0,0,0,1\n");
+    show_weighted(b"root=0,0\nbranch=20\nwire=2,2\nneed=0\nsinks=1\nsink=0,0,0,0\n");
+    show_weighted(b"root=0,0\nbranch=20\nwire=2,2\nneed=0\nsinks=1\nsink=0,0,0,1001\n");
+    show_weighted(b"root=0,0\nbranch=20\nwire=2,2\nneed=0\nsinks=1\nsink=0,0,0\n");
+    show_weighted(b"root=0,0\nbranch=20\nwire=2,2\nneed=0\nsinks=1\nsink=0,0,0,1,1\n");
+    show_weighted(b"root=0,0\nbranch=20\nwire=2,2\nneed=0\nsinks=1\nsink=40000001,0,0,1000\n");
+    show_weighted(b"root=0,0\nbranch=20\nwire=2,2\nneed=0\nsinks=1\nsink=40000001,0,0,1001\n");
+    show(b"root=0,0\nbranch=20\nwire=2,2\nneed=0\nsinks=1\nsink=0,0,0\n");
+    show_short(b"root=0,0\nbranch=20\nwire=2,2\nneed=0\nsinks=1\nsink=0,0,0\n");
 }
 
 fn main() {
@@ -279,13 +334,15 @@ fn main() {
     show_positions();
     // Request 1 of 02: the edge above a branch point is the nearest; sink 2 is nearer than sink 1.
     show_listing(
-        b"root=0,0\nbranch=20\nwire=2,2\nneed=-40\nsinks=3\nsink=10,0,20\nsink=10,0,20\nsink=1,0,2\n",
+        b"root=0,0\nbranch=20\nwire=2,2\nneed=-40\nsinks=3\nsink=10,0,20,1\nsink=10,0,20,1\nsink=1,0,2,1\n",
     );
     show_listing(
-        b"root=0,0\nbranch=20\nwire=2,2\nneed=-40\nsinks=3\nsink=10,0,20\nsink=0,10,20\nsink=1,10,22\n",
+        b"root=0,0\nbranch=20\nwire=2,2\nneed=-40\nsinks=3\nsink=10,0,20,1\nsink=0,10,20,1\nsink=1,10,22,1\n",
     );
     show_factors();
     show_ranges();
     show_nanometres();
     show_short_trees();
+    show_weighted_trees();
+    show_weights();
 }

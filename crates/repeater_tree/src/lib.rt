@@ -3,12 +3,14 @@ ghost use mathlib.Core.Path.{_≡_};
 ghost use lib.ListN.{length};
 ghost use Rattle.operations.specs.Answers.{planOf, planOutput, planAnswer, planFigures, judgeOf, judgeAnswer, judgeFigures};
 ghost use Rattle.short_tree.specs.SecondPlan.{shortOf, shortOutput};
+ghost use Rattle.weighted_tree.specs.ThirdPlan.{weightedOf, weightedOutput};
 use first_plan::plan::plan;
 use formats::refusal::tell;
 use judging::judge::judge;
 use operations::answers::JudgeAnswer;
 use operations::answers::PlanAnswer;
 use short_tree::plan_short::plan_short;
+use weighted_tree::plan_weighted::plan_weighted;
 
 // The figures of what a plan answers, each through its reference. The number of the refusal is returned, 0 where nothing is refused.
 fn give(
@@ -79,6 +81,24 @@ pub extern "C" fn repeater_tree_plan_short(
     ensures output { λ r. ⌜ now (out .exit) ≡ shortOutput (now (net .entry)) (now (out .entry)) ⌝ }
 {
     let answer = plan_short(net, out);
+    give(answer, text, line, slack, wire, bytes)
+}
+
+// Plans the tree of a net by its switching weights.
+#[no_mangle]
+pub extern "C" fn repeater_tree_plan_weighted(
+    net: &[u8],
+    out: &mut [u8],
+    text: &mut u8,
+    line: &mut usize,
+    slack: &mut i64,
+    wire: &mut u64,
+    bytes: &mut usize,
+) -> u8
+    ensures figures { λ r. ⌜ (record { number = r; text = now (text .exit); line = now (line .exit); slack = now (slack .exit); wire = now (wire .exit); bytes = now (bytes .exit) }) ≡ planFigures (planAnswer (weightedOf (now (net .entry)) (length (now (out .entry))))) ⌝ }
+    ensures output { λ r. ⌜ now (out .exit) ≡ weightedOutput (now (net .entry)) (now (out .entry)) ⌝ }
+{
+    let answer = plan_weighted(net, out);
     give(answer, text, line, slack, wire, bytes)
 }
 

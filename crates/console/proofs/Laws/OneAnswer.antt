@@ -31,6 +31,7 @@ use Rattle.operations.proofs.Laws.Answers.{plan-refused, Ends, unreachable, sho
 use Rattle.operations.proofs.Laws.PlanListing.{plan-in-range}
 use Rattle.operations.proofs.Laws.TreePlans.{Makes, made-in-range, tree-plan}
 use Rattle.short_tree.proofs.Laws.SecondPlan.{short-makes}
+use Rattle.weighted_tree.proofs.Laws.ThirdPlan.{weighted-makes}
 use Rattle.console.specs.Printing.{refusedKey, bestKey, refusalText, measuresText, planPrinted, judgePrinted, OneAnswer}
 
 -- ---- two texts of one kind
@@ -123,5 +124,6 @@ pub one-answer : OneAnswer
 one-answer = record {
   plan = λ net net′ room room′ r. plan-one _ _ r (plan-text net room) (plan-text net′ room′);
   plan-short = λ net net′ room room′ r. plan-one _ _ r (tree-text _ short-makes net room) (tree-text _ short-makes net′ room′);
+  plan-weighted = λ net net′ room room′ r. plan-one _ _ r (tree-text _ weighted-makes net room) (tree-text _ weighted-makes net′ room′);
   judge = λ net listing net′ listing′ r. judge-one (judgeOf net listing) (judgeOf net′ listing′) r;
 }

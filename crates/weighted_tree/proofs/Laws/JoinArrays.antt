@@ -1,4 +1,4 @@
--- What the arrays hold from join to join: none made, one more, all.
+-- What the arrays hold from join to join: none made, one more, all. Assumes nothing.
 use Prim.Native.Nat.{ℕ, zero, suc, _+_, _*_, _-_, _≤_, _<_}
 use mathlib.Core.Path.{_≡_, refl, sym, ap, ap₂, _∙_, subst}
 use mathlib.Core.Logic.{_≢_, _⊎_, inl, inr}

@@ -1,4 +1,4 @@
--- The joined tree in the arrays of a net: each parent has the higher number, so the vertices by number go up the tree and down; settled, it is held.
+-- The joined tree in the arrays of a net: each parent has the higher number, so the vertices by number go up the tree and down; settled, it is held. Assumes nothing.
 use Prim.Native.Nat.{ℕ, zero, suc, _*_, _-_, _≤_, _<_}
 use mathlib.Core.Path.{_≡_, sym, ap, _∙_, subst}
 use mathlib.Core.Logic.{_⊎_, inl, inr}
