@@ -5,7 +5,7 @@ use mathlib.Core.Logic.{_↔_, _≢_}
 use mathlib.Core.Bool.{Bool, true, false}
 use mathlib.Core.List.{List, _++_}
 use native.Mathlib.Omega.{arith}
-use borrow.Author.Tests.{ltb-true, ltb-false}
+use borrow.Author.Tests.{ltb-true, ltb-false, le-ltb}
 use lib.ListN.{length, take, drop}
 use lib.Seq.{take-at}
 use lib.Dec.{ltb}
@@ -19,7 +19,7 @@ use Rattle.tree.specs.Limits.{positionLimit, slackLimit, InRange}
 use Rattle.formats.specs.Refusals.{told}
 use Rattle.formats.specs.Outcome.{Outcome, value, refused, andThen}
 use Rattle.formats.specs.NetText.{InFormat}
-use Rattle.formats.specs.ListingText.{Listing, ListingInRange, ListingInFormat}
+use Rattle.formats.specs.ListingText.{Listing, listingText, ListingInRange, ListingInFormat}
 use Rattle.formats.specs.Reading.Nets.{WeightedNet, readWeighted}
 use Rattle.formats.specs.declared.refusal.Refusal.{Refusal}
 use Rattle.formats.specs.declared.refusal.Refusal.the-variants.{Unreachable, TooShort}
@@ -62,6 +62,14 @@ module _ (make : Make) (net out : List ℕ) where
         e ∙ (λ i. planAnswer (emitted (sym sized i) (made i) (length out))) ∙ sym (ap planAnswer p),
         f ∙ (λ i. overwritten (bytesOf (emitted (sym sized i) (made i) (length out))) out) ∙ sym (ap (λ o. overwritten (bytesOf o) out) p),
       )
+
+-- a net that is read as N with the weights w, and the listing of its tree: for what is marked
+pub tree-over : (make : Make) (net : List ℕ) (N : Net) (w : List ℕ) → readWeighted net ≡ value (record { net = N; weights = w }) → (slack : ℤ) (wire : ℕ) (bytes : List ℕ) → worstSlack N (make N w) ≡ slack → wireLength N (make N w) ≡ wire → treeListing make N w ≡ bytes
+    → (room : ℕ) → length bytes ≤ room → treePlanOf make net room ≡ value (record { slack = slack; wire = wire; bytes = bytes })
+unfolding treePlanOf treeListing
+tree-over make net N w r slack wire bytes s e l room h =
+    let t : ltb room (length (listingText (size N) (stated N (make N w)))) ≡ false = le-ltb room (length (listingText (size N) (stated N (make N w)))) (omega (arith, ap length l)) in
+    then-value (λ M. emitted (size (M .net)) (stated (M .net) (make (M .net) (M .weights))) room) r ∙ rw (emitted, t) (λ i. value (record { slack = s i; wire = e i; bytes = l i }))
 
 -- the listing that goes out is in range
 pub made-in-range : (make : Make) → Makes make → (N : Net) (w : List ℕ) (n : ℕ) (G : Listing) → size N ≡ n → G ≡ stated N (make N w) → InRange N → ListingInRange n G

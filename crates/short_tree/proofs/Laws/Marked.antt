@@ -1,24 +1,21 @@
 -- The marked nets of request 6, by computation. Assumes nothing.
 use Prim.Native.Nat.{ℕ, _≤_}
 use mathlib.Core.Path.{_≡_, refl, sym, ap, _∙_}
-use mathlib.Core.Bool.{false}
 use mathlib.Core.List.{List, [], _∷_}
 use native.Mathlib.Omega.{arith}
-use borrow.Author.Tests.{le-ltb}
 use lib.ListN.{length}
-use lib.Dec.{ltb}
-use lib.IntN.{ℤ, pos, negℤ}
+use lib.IntN.{pos, negℤ}
 use Rattle.quantities.specs.MinMax.{minℤ, maxℤ}
 use Rattle.quantities.specs.Distance.{distance, span}
 use Rattle.quantities.specs.Delay.{delay}
 use Rattle.quantities.specs.Median.{median, medianPoint}
 use Rattle.quantities.specs.Floor.{floorDiv}
-use Rattle.tree.specs.Net.{Net, size, ownSlacks}
+use Rattle.tree.specs.Net.{Net, ownSlacks}
 use Rattle.tree.specs.Kraft.{kraftMaximum, searchDown}
 use Rattle.tree.specs.Measures.{worstSlack, wireLength}
 use Rattle.tree.specs.Marked.{point, sink, metals, netA}
 use Rattle.formats.specs.Decimal.{showNat, show, digits}
-use Rattle.formats.specs.Outcome.{value, refused, andThen}
+use Rattle.formats.specs.Outcome.{value, refused}
 use Rattle.formats.specs.ListingText.{listingText}
 use Rattle.formats.specs.Reading.Numbers.{lead, natural, field}
 use Rattle.formats.specs.Reading.Numbers.{value as digitsValue}
@@ -26,24 +23,16 @@ use Rattle.formats.specs.Reading.Rows.{numberThen, rowIn, begins, lineIn}
 use Rattle.formats.specs.Reading.Nets.{readWeighted}
 use Rattle.formats.specs.declared.refusal.Refusal.the-variants.{TooShort}
 use Rattle.formats.proofs.Laws.Nets.NetTexts.{WeightedFormat, weighted-sound}
-use Rattle.operations.specs.Answers.{stated, emitted, judgeOf}
+use Rattle.operations.specs.Answers.{judgeOf}
 use Rattle.operations.specs.Demands.{withNeed}
-use Rattle.operations.specs.TreePlans.{ignoringWeights, treeListing, treePlanOf}
+use Rattle.operations.specs.TreePlans.{ignoringWeights, treeListing}
 use Rattle.operations.specs.Marked.{textA, textA1}
 use Rattle.operations.proofs.Laws.Marked as first
-use Rattle.operations.proofs.Laws.TreePlans.{tree-judged}
+use Rattle.operations.proofs.Laws.TreePlans.{tree-over, tree-judged}
 use Rattle.short_tree.specs.ShortTree.{short}
 use Rattle.short_tree.specs.SecondPlan.{shortOf}
 use Rattle.short_tree.specs.Marked.{shortA, textTied, shortTied, textBranchEdge, shortBranchEdge, Marked}
 use Rattle.short_tree.proofs.Laws.SecondPlan.{short-makes, second-plan}
-
--- a net that is read as N, and the listing of its short tree
-short-over : (net : List ℕ) (N : Net) (w : List ℕ) → readWeighted net ≡ value (record { net = N; weights = w }) → (slack : ℤ) (wire : ℕ) (bytes : List ℕ) → worstSlack N (short N) ≡ slack → wireLength N (short N) ≡ wire → treeListing (ignoringWeights short) N w ≡ bytes
-    → (room : ℕ) → length bytes ≤ room → shortOf net room ≡ value (record { slack = slack; wire = wire; bytes = bytes })
-unfolding treePlanOf treeListing
-short-over net N w r slack wire bytes s e l room h =
-    let t : ltb room (length (listingText (size N) (stated N (short N)))) ≡ false = le-ltb room (length (listingText (size N) (stated N (short N)))) (omega (arith, ap length l)) in
-    ap (λ o. andThen o (λ M. emitted (size (M .net)) (stated (M .net) (short (M .net))) room)) r ∙ rw (emitted, t) (λ i. value (record { slack = s i; wire = e i; bytes = l i }))
 
 -- ---- A
 
@@ -82,7 +71,7 @@ listing-read : treeListing (ignoringWeights short) netA (format-A .0 .weights) �
 listing-read = ap (treeListing (ignoringWeights short) netA) (format-A .1) ∙ listing-A
 
 A-short : (room : ℕ) → length shortA ≤ room → shortOf textA room ≡ value (record { slack = negℤ (pos 10); wire = 26; bytes = shortA })
-A-short = short-over textA netA ones read-A (negℤ (pos 10)) 26 shortA slack-A wire-A listing-A
+A-short = tree-over (ignoringWeights short) textA netA ones read-A (negℤ (pos 10)) 26 shortA slack-A wire-A listing-A
 
 -- with another need nothing changes
 A1-short : (room : ℕ) → length shortA ≤ room → shortOf textA1 room ≡ value (record { slack = negℤ (pos 10); wire = 26; bytes = shortA })
@@ -111,7 +100,7 @@ tiedNet = record {
 
 tied-sinks : (room : ℕ) → length shortTied ≤ room → shortOf textTied room ≡ value (record { slack = pos 0; wire = 10; bytes = shortTied })
 unfolding tiedNet readWeighted numberThen rowIn begins lineIn field natural digitsValue lead treeListing listingText digits showNat show worstSlack wireLength short minℤ maxℤ median medianPoint delay distance span
-tied-sinks = short-over textTied tiedNet ones refl (pos 0) 10 shortTied refl refl refl
+tied-sinks = tree-over (ignoringWeights short) textTied tiedNet ones refl (pos 0) 10 shortTied refl refl refl
 
 -- ---- an edge above a branch point
 
@@ -126,7 +115,7 @@ branchNet = record {
 
 branch-edge : (room : ℕ) → length shortBranchEdge ≤ room → shortOf textBranchEdge room ≡ value (record { slack = pos 36; wire = 23; bytes = shortBranchEdge })
 unfolding branchNet readWeighted numberThen rowIn begins lineIn field natural digitsValue lead treeListing listingText digits showNat show worstSlack wireLength short minℤ maxℤ median medianPoint delay distance span
-branch-edge = short-over textBranchEdge branchNet ones refl (pos 36) 23 shortBranchEdge refl refl refl
+branch-edge = tree-over (ignoringWeights short) textBranchEdge branchNet ones refl (pos 36) 23 shortBranchEdge refl refl refl
 
 pub marked : Marked
 unfolding short minℤ maxℤ median medianPoint distance span
