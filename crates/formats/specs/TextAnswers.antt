@@ -8,7 +8,7 @@ use Rattle.formats.specs.Outcome.{value, refused}
 use Rattle.formats.specs.NetText.{InFormat}
 use Rattle.formats.specs.ListingText.{Listing, NoSinkParent, ListingInFormat}
 use Rattle.formats.specs.Faults.{NetFault, ListingFault}
-use Rattle.formats.specs.Reading.Nets.{WeightedNet, readWeighted, readNet}
+use Rattle.formats.specs.Reading.Nets.{readWeighted, readNet}
 use Rattle.formats.specs.Reading.Listings.{readListing}
 use Rattle.formats.specs.declared.refusal.Refusal.{Refusal}
 

@@ -3,10 +3,9 @@ use Prim.Native.Nat.{ℕ}
 use mathlib.Core.Path.{_≡_, sym, ap, _∙_}
 use mathlib.Core.List.{List}
 use lib.ListN.{length}
-use Rattle.tree.specs.Net.{Net, size}
+use Rattle.tree.specs.Net.{Net}
 use Rattle.formats.specs.Outcome.{andThen}
 use Rattle.formats.specs.NetText.{InFormat}
-use Rattle.formats.specs.Reading.Nets.{readNet}
 use Rattle.formats.proofs.Laws.Nets.NetTexts.{net-complete}
 use Rattle.operations.specs.Answers.{planNet, planOf, planOutput, bytesOf, overwritten, judgeOf}
 use Rattle.operations.specs.Weightless.{Weightless}

@@ -1,6 +1,6 @@
 -- What is chosen is the first of all sinks that wait and all edges; so the tree of `after` grows as Laws/Wiring has it. Assumes nothing.
 use Prim.Native.Nat.{ℕ, zero, suc, _+_, _-_, _*_, _≤_, _<_}
-use mathlib.Core.Path.{_≡_, refl, ap}
+use mathlib.Core.Path.{_≡_, ap}
 use mathlib.Core.Logic.{_≢_, _⊎_, inl, inr}
 use native.Mathlib.Omega.{arith}
 use native.Mathlib.Nat.{eq-or-lt-of-le}
@@ -8,8 +8,7 @@ use lib.ListN.{length, getD, replicate, length-replicate}
 use Rattle.quantities.specs.Distance.{distance}
 use Rattle.tree.specs.Lists.{count, down, range}
 use Rattle.tree.specs.Net.{Net, size, sinkNumbers, sinkAt}
-use Rattle.tree.specs.Tree.{parentOf}
-use Rattle.tree.proofs.Laws.Trees.LegalTrees.{somewhere}
+use Rattle.tree.proofs.Laws.Trees.LegalTrees.{somewhere, hangs}
 use Rattle.tree.proofs.Laws.Planning.BeforeSettling.{count-append}
 use Rattle.short_tree.specs.Inner.Searching.{Ahead, First}
 use Rattle.short_tree.specs.ShortTree.{Growing, added, outside, waiting, edges, edgeFor, nextSink, inserted, nearest, start, after}
@@ -81,15 +80,6 @@ module _ (N : Net) (k : ℕ) (g : Growing) where
 
         least : (t u : ℕ) → 1 ≤ t → t ≤ size N → count t (g .sinks) ≡ 0 → InTree N k g u → added N (g .tree) s v ≤ added N (g .tree) t u
         least t u a b o i = not-after-le (c .first t u (waits t a b o) (omega (arith, edge-count u)))
-
-zero-at : (m i : ℕ) → getD {A = ℕ} (replicate m 0) i 0 ≡ 0
-zero-at zero i = refl
-zero-at (suc m) zero = refl
-zero-at (suc m) (suc i) = zero-at m i
-
-pub hangs : (m v : ℕ) → parentOf (replicate m 0) v ≡ 0
-hangs m zero = refl
-hangs m (suc v) = zero-at m v
 
 module _ (N : Net) (n1 : 1 ≤ size N) where
   pub nearest-first : FirstOf (λ s. distance (N .root) (sinkAt N s)) (sinkNumbers (size N)) (nearest N)

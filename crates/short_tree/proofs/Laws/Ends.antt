@@ -13,6 +13,7 @@ use Rattle.tree.specs.Net.{Net, size, sinkAt, sinkNumbers, branchNumbers}
 use Rattle.tree.specs.Tree.{place}
 use Rattle.tree.specs.Inner.Arrays.{pointAt, parentsOf, treeOf}
 use Rattle.tree.proofs.Laws.Lists.Sums.{equal?, delta-ne, delta-self}
+use Rattle.tree.proofs.Laws.Trees.LegalTrees.{hangs}
 use Rattle.tree.proofs.Laws.Lists.Tables.{table-length, table-at}
 use Rattle.tree.proofs.Laws.Arrays.NetAndTree.{parents-length, parents-at}
 use Rattle.short_tree.specs.ShortTree.{nearest, after, short}
@@ -20,7 +21,7 @@ use Rattle.short_tree.specs.Inner.Searching.{Leads, First, Bound}
 use Rattle.short_tree.specs.Inner.Arrays.{addedAt, Waits, Inside, Kept, Pins, Room, Tracks, Held}
 use Rattle.short_tree.proofs.Laws.Choosing.{first-map, first-is}
 use Rattle.short_tree.proofs.Laws.Waiting.{place-terminal, sink-once, sink-range}
-use Rattle.short_tree.proofs.Laws.Choice.{grown, hangs}
+use Rattle.short_tree.proofs.Laws.Choice.{grown}
 
 -- ---- the first sink
 

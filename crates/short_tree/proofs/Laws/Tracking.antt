@@ -16,10 +16,10 @@ use Rattle.tree.specs.Planning.{put}
 use Rattle.tree.specs.Limits.{positionLimit}
 use Rattle.tree.specs.Inner.Arrays.{pointAt, Points}
 use Rattle.tree.proofs.Laws.Arrays.NetAndTree.{parents-at}
+use Rattle.tree.proofs.Laws.Trees.LegalTrees.{hangs}
 use Rattle.short_tree.specs.ShortTree.{meeting, added, edgeFor, nextSink, after}
 use Rattle.short_tree.specs.Inner.Arrays.{meetingAt, addedAt, Reaches, Pins, HoldsPins, Tracks}
 use Rattle.short_tree.proofs.Laws.Waiting.{place-terminal}
-use Rattle.short_tree.proofs.Laws.Choice.{hangs}
 use Rattle.short_tree.proofs.Laws.Theorem2.{in-box}
 
 -- ---- parents are among the vertices made

@@ -16,7 +16,7 @@ use Rattle.tree.specs.Net.{Net, size, sinkAt}
 use Rattle.tree.specs.Tree.{Tree, parentOf, parent, place}
 use Rattle.tree.specs.Planning.{split}
 use Rattle.tree.specs.Measures.{edgeLength}
-use Rattle.tree.proofs.Laws.Lists.Sums.{equal?, delta-ne, delta-self, sumOver-change, down-in, down-once, down-low}
+use Rattle.tree.proofs.Laws.Lists.Sums.{equal?, delta-eq, delta-ne, sumOver-change, sumOver-find, down-in, down-once, down-low}
 use Rattle.tree.proofs.Laws.Trees.Growing.{PartTree, Split, parent-inner, member, inner-ne, split-tree}
 use Rattle.tree.proofs.Laws.Trees.LegalTrees.{stores}
 use Rattle.tree.proofs.Laws.Kraft.Rivals.{base-tree}
@@ -45,22 +45,6 @@ pub record Grown (N : Net) (k : ℕ) (g : Growing) : Type 0 where
 
 apart-symmetric : (N : Net) (u v : ℕ) → apart N u v ≡ apart N v u
 apart-symmetric N u v = distance-symmetric (sinkAt N u) (sinkAt N v)
-
-delta-eq : (x y : ℕ) → delta x y ≢ 0 → x ≡ y
-delta-eq x y h = go (equal? x y)
-  where
-    go : (x ≡ y) ⊎ (x ≢ y) → x ≡ y
-    go (inl e) = e
-    go (inr d) = absurd (h (delta-ne x y d))
-
--- a sum that is not 0 has a term that is not 0
-find : (l : List ℕ) (f : ℕ → ℕ) → sumOver l f ≢ 0 → (z : ℕ) × (count z l ≢ 0) × (f z ≢ 0)
-find [] f h = absurd (h refl)
-find (y ∷ l) f h = go (find l f) (equal? (f y) 0)
-  where
-    go : (sumOver l f ≢ 0 → (z : ℕ) × (count z l ≢ 0) × (f z ≢ 0)) → (f y ≡ 0) ⊎ (f y ≢ 0) → (z : ℕ) × (delta z y + count z l ≢ 0) × (f z ≢ 0)
-    go ih (inl e) = let r : (z : ℕ) × (count z l ≢ 0) × (f z ≢ 0) = ih (omega arith) in (r .0, omega (arith, r .1), r .2)
-    go ih (inr d) = (y, omega (arith, delta-self y), d)
 
 -- ---- the first sink
 
@@ -160,10 +144,10 @@ module _ (N : Net) (k : ℕ) (g : Growing) (G : Grown N k g) (s x : ℕ) (s1 : 1
     where
       go : (sumOver (g .sinks) (λ v. delta 0 (parent (g .tree) v)) ≡ 0) ⊎ (sumOver (g .sinks) (λ v. delta 0 (parent (g .tree) v)) ≢ 0) → (v : ℕ) × (InTree N k g v) × (parent (g .tree) v ≡ 0)
       go (inl e) =
-          let r : (v : ℕ) × (count v (down (size N) k) ≢ 0) × (delta 0 (parent (g .tree) v) ≢ 0) = find (down (size N) k) (λ v. delta 0 (parent (g .tree) v)) (omega (arith, G .tree .children-are 0)) in
+          let r : (v : ℕ) × (count v (down (size N) k) ≢ 0) × (delta 0 (parent (g .tree) v) ≢ 0) = sumOver-find (down (size N) k) (λ v. delta 0 (parent (g .tree) v)) (omega (arith, G .tree .children-are 0)) in
           (r .0, omega (arith, r .1), sym (delta-eq 0 (parent (g .tree) (r .0)) (r .2)))
       go (inr d) =
-          let r : (v : ℕ) × (count v (g .sinks) ≢ 0) × (delta 0 (parent (g .tree) v) ≢ 0) = find (g .sinks) (λ v. delta 0 (parent (g .tree) v)) d in
+          let r : (v : ℕ) × (count v (g .sinks) ≢ 0) × (delta 0 (parent (g .tree) v) ≢ 0) = sumOver-find (g .sinks) (λ v. delta 0 (parent (g .tree) v)) d in
           (r .0, omega (arith, r .1), sym (delta-eq 0 (parent (g .tree) (r .0)) (r .2)))
 
   module _ (least : (z v : ℕ) → 1 ≤ z → z ≤ size N → count z (g .sinks) ≡ 0 → InTree N k g v → added N (g .tree) s x ≤ added N (g .tree) z v) where

@@ -4,7 +4,7 @@ use mathlib.Core.Path.{_≡_, refl, sym, ap, ap₂, _∙_, subst}
 use mathlib.Core.Logic.{_≢_, _⊎_, inl, inr}
 use mathlib.Core.List.{List, map}
 use native.Mathlib.Omega.{arith}
-use lib.ListN.{length, getD, set, take, replicate, length-set, length-append, length-replicate, List·getD-append}
+use lib.ListN.{length, getD, set, take, replicate, length-set, length-append, length-replicate}
 use lib.Seq.{ext-getD, getD-set-same, getD-set-other, getD-take}
 use lib.IntN.{ℤ, pos}
 use Rattle.quantities.specs.Inner.Linear.{whole, up}
@@ -17,7 +17,7 @@ use Rattle.tree.specs.Inner.Arrays.{parentsOf, weightsOf, HoldsWeights}
 use Rattle.tree.specs.Inner.Insertion.{earlierBy}
 use Rattle.tree.proofs.Laws.Lists.Sums.{equal?, down-in, down-once}
 use Rattle.tree.proofs.Laws.Lists.Tables.{table-length, table-at, range-length}
-use Rattle.tree.proofs.Laws.Trees.LegalTrees.{somewhere, down-le, put-same, put-other}
+use Rattle.tree.proofs.Laws.Trees.LegalTrees.{somewhere, down-le, put-same, put-other, hangs}
 use Rattle.tree.proofs.Laws.Arrays.NetAndTree.{parents-length, parents-at}
 use Rattle.tree.proofs.Laws.Arrays.ParentStores.{parents-put}
 use Rattle.tree.proofs.Laws.Measures.MeasuredArrays.{pos-up}
@@ -29,6 +29,7 @@ use Rattle.weighted_tree.specs.Joining.{Joining, waiting, joinTwo, joinN
 use Rattle.weighted_tree.specs.Inner.Arrays.{Takes, Lower, Queues, Joined}
 use Rattle.weighted_tree.proofs.Laws.FirstTwo.{before, sorted-at, place-of, first-two}
 use Rattle.weighted_tree.proofs.Laws.Queues.{Stored, taken-more, apart, x-free, y-free, x-first, y-next, joined-queues}
+use Rattle.weighted_tree.proofs.Laws.Joins.{start-weight}
 use Rattle.weighted_tree.proofs.Laws.Fits.{totals-fit}
 
 -- ---- one join
@@ -139,12 +140,6 @@ module _ (n k i : ℕ) (J : Joining) (ws : List ℤ) (os ps : List ℕ) (held : 
 
 -- ---- the start
 
-none-at : (m v : ℕ) → parentOf (replicate m 0) v ≡ 0
-none-at m zero = refl
-none-at zero (suc v) = refl
-none-at (suc m) (suc zero) = refl
-none-at (suc m) (suc (suc v)) = none-at m (suc v)
-
 module _ (n : ℕ) (ws : List ℤ) (os ps : List ℕ) (some : 1 ≤ n) (held : HoldsWeights n ws) (ol : n ≤ length os)
     (sorted : take n os ≡ sort (earlierBy ws) (range 1 n)) (cleared : (v : ℕ) → v < 2 * n → getD ps v 0 ≡ 0) where
   w : List ℕ
@@ -165,15 +160,8 @@ module _ (n : ℕ) (ws : List ℤ) (os ps : List ℕ) (some : 1 ≤ n) (held : H
       let t : weightOf (weightsOf n ws) (suc m) ≡ up (getD ws (suc m) (pos 0)) = table-at (λ (s : ℕ). up (getD ws s (pos 0))) 0 1 n m (omega arith) ∙ ap (λ (s : ℕ). up (getD ws s (pos 0))) e in
       pos-up (getD ws (suc m) (pos 0)) (omega (arith, held .in-range .each (suc m) h l .0)) ∙ ap pos (sym t)
 
-  start-weight : (s : ℕ) → 1 ≤ s → s ≤ n → weightOf (unjoined n w .totals) s ≡ weightOf w s
-  unfolding own
-  start-weight zero h l = refl
-  start-weight (suc m) h l =
-      let e : 1 + m ≡ suc m = omega arith in
-      List·getD-append own (replicate (n - 1) 0) 0 m (omega (arith, own-long)) ∙ table-at (weightOf w) 0 1 n m (omega arith) ∙ ap (weightOf w) e
-
   key-is : (s : ℕ) → 1 ≤ s → s ≤ n → getD ws s (pos 0) ≡ pos (weightOf (unjoined n w .totals) s)
-  key-is s h l = weight-is s h l ∙ ap pos (sym (start-weight s h l))
+  key-is s h l = weight-is s h l ∙ ap pos (sym (start-weight n w s h l))
 
   -- the sinks in `order`
   line : List ℕ
@@ -213,9 +201,9 @@ module _ (n : ℕ) (ws : List ℤ) (os ps : List ℕ) (some : 1 ≤ n) (held : H
     sinks-taken = omega arith;
     branches-taken = omega arith;
     two-each = refl;
-    free = λ u h. none-at (2 * n - 1) u;
+    free = λ u h. hangs (2 * n - 1) u;
     all = λ u a b f. inl (waits u a (omega arith));
-    unborn = λ u l. none-at (2 * n - 1) u;
+    unborn = λ u l. hangs (2 * n - 1) u;
     light = λ b u h l g. absurd (omega arith);
   }
     where
@@ -245,7 +233,7 @@ module _ (n : ℕ) (ws : List ℤ) (os ps : List ℕ) (some : 1 ≤ n) (held : H
       at : (m : ℕ) → m < length (parentsOf n ps) → getD (parentsOf n ps) m 0 ≡ getD (replicate (2 * n - 1) 0) m 0
       at m h =
           let l : suc m < 2 * n = omega (arith, parents-length n ps) in
-          parents-at n ps (suc m) (omega arith) l ∙ cleared (suc m) l ∙ sym (none-at (2 * n - 1) (suc m))
+          parents-at n ps (suc m) (omega arith) l ∙ cleared (suc m) l ∙ sym (hangs (2 * n - 1) (suc m))
 
 -- ---- the end
 

@@ -21,7 +21,7 @@ use Rattle.formats.specs.Reading.Numbers.{lead, natural, field}
 use Rattle.formats.specs.Reading.Numbers.{value as digitsValue}
 use Rattle.formats.specs.Reading.Rows.{numberThen, rowIn, begins, lineIn}
 use Rattle.formats.specs.Reading.Nets.{readWeighted}
-use Rattle.formats.specs.declared.refusal.Refusal.the-variants.{Unreachable, TooShort}
+use Rattle.formats.specs.declared.refusal.Refusal.the-variants.{TooShort}
 use Rattle.formats.proofs.Laws.Nets.NetTexts.{WeightedFormat, weighted-sound}
 use Rattle.operations.specs.Answers.{planOf, judgeOf}
 use Rattle.operations.specs.Demands.{withNeed}

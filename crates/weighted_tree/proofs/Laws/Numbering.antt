@@ -5,17 +5,17 @@ use mathlib.Core.Logic.{_⊎_, inl, inr}
 use mathlib.Core.List.{List}
 use native.Mathlib.Omega.{arith}
 use lib.ListN.{length, getD}
-use lib.IntN.{ℤ, pos}
+use lib.IntN.{ℤ}
 use Rattle.quantities.specs.Ranges.{PointWithin}
 use Rattle.tree.specs.declared.header.Header.{Header}
-use Rattle.tree.specs.Net.{Net, Sink}
+use Rattle.tree.specs.Net.{Net}
 use Rattle.tree.specs.Tree.{parentOf, Legal, place}
 use Rattle.tree.specs.Settling.{settledTree}
 use Rattle.tree.specs.Limits.{positionLimit, sinkLimit, InRange}
 use Rattle.tree.specs.Inner.Arrays.{pointAt, netOf, parentsOf, treeOf, Parents, HoldsNet, HoldsTree, UnderRoot, LeavesUp, RootDown}
-use Rattle.tree.proofs.Laws.Lists.Tables.{table-cong}
 use Rattle.tree.proofs.Laws.Arrays.NetAndTree.{size-is, parents-at, place-at}
 use Rattle.tree.proofs.Laws.Measures.FiguresInRange.{settled-within}
+use Rattle.formats.proofs.Laws.Held.{kept-net}
 use Rattle.weighted_tree.specs.Joining.{joinedParents, weightedTree}
 use Rattle.weighted_tree.proofs.Laws.Joins.{joined-legal, joined-rising}
 
@@ -86,16 +86,7 @@ module _ (n : ℕ) (w : List ℕ) (some : 1 ≤ n) (few : n ≤ sinkLimit) (ps :
     N = netOf h n xs ys rs
 
     same-net : netOf h n xs′ ys′ rs ≡ N
-    same-net = λ i. record {
-      root = kept 0 (omega arith) i;
-      branch = N .branch;
-      wire = N .wire;
-      need = N .need;
-      sinks = table-cong (sinkOf xs′ ys′) (sinkOf xs ys) 1 n (λ s p q. ap (λ z. record { point = z; required = getD rs s (pos 0) }) (kept s (omega arith))) i;
-    }
-      where
-        sinkOf : List ℤ → List ℤ → ℕ → Sink
-        sinkOf xs ys s = record { point = pointAt xs ys s; required = getD rs s (pos 0) }
+    same-net = kept-net h n xs ys rs xs′ ys′ kept
 
     pub made-tree : (netOf h n xs′ ys′ rs ≡ N) × (treeOf n ps xs′ ys′ ≡ weightedTree N w)
     unfolding weightedTree

@@ -14,7 +14,7 @@ use Rattle.tree.specs.Settling.{children, settled}
 use Rattle.formats.specs.NetText.{InFormat}
 use Rattle.formats.specs.ListingText.{Listing, ListingInFormat}
 use Rattle.formats.proofs.Laws.Listings.ListingTexts.{listing-one}
-use Rattle.operations.specs.Demands.{withNeed, LegalAndTrue, Accepts}
+use Rattle.operations.specs.Demands.{withNeed, Accepts}
 use Rattle.operations.proofs.Laws.Demands.{demands}
 use Rattle.operations.proofs.Laws.TreePlans.{Makes, tree-plan}
 use Rattle.weighted_tree.specs.Joining.{joinedParents, weightedTree}
