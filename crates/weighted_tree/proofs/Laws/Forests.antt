@@ -97,7 +97,7 @@ pub record Pick (N k : ℕ) (w p : ℕ → ℕ) (x y : ℕ) : Type 0 where
   pub least : (z : ℕ) → 1 ≤ z → z ≤ N + k → p z ≡ 0 → z ≢ x → z ≢ y → w y ≤ w z
 
 -- they are joined under the branch point N + k + 1
-pub record Joined (N k x y : ℕ) (w p w′ p′ : ℕ → ℕ) : Type 0 where
+pub record JoinStep (N k x y : ℕ) (w p w′ p′ : ℕ → ℕ) : Type 0 where
   pub weight : w′ (N + suc k) ≡ w x + w y
   pub weight-old : (z : ℕ) → z ≢ N + suc k → w′ z ≡ w z
   pub px : p′ x ≡ N + suc k
@@ -123,7 +123,7 @@ forest-start N w p h = record {
     low : (x : ℕ) → count x (down 0 N) ≢ 0 → p x ≡ 0
     low x q = h x (omega (arith, down-in 0 N x q))
 
-module _ (N k : ℕ) (A : List ℕ) (w p : ℕ → ℕ) (x y : ℕ) (w′ p′ : ℕ → ℕ) (F : Forest N k A w p) (c : Pick N k w p x y) (j : Joined N k x y w p w′ p′) where
+module _ (N k : ℕ) (A : List ℕ) (w p : ℕ → ℕ) (x y : ℕ) (w′ p′ : ℕ → ℕ) (F : Forest N k A w p) (c : Pick N k w p x y) (j : JoinStep N k x y w p w′ p′) where
   pub rest : List ℕ
   rest = without y (without x A)
 

@@ -15,7 +15,7 @@ use Rattle.tree.proofs.Laws.Trees.LegalTrees.{hangs, put-same, put-other}
 use Rattle.tree.proofs.Laws.Lists.Tables.{table-length, table-at}
 use Rattle.weighted_tree.specs.Joining.{Joining, joinTwo, joinNext, unjoined, joinedAfter, joinedParents}
 use Rattle.weighted_tree.proofs.Laws.Exchange.{cost}
-use Rattle.weighted_tree.proofs.Laws.Forests.{Forest, Pick, Joined, forest-start, forest-join, rest, joint-le}
+use Rattle.weighted_tree.proofs.Laws.Forests.{Forest, Pick, JoinStep, forest-start, forest-join, rest, joint-le}
 use Rattle.weighted_tree.proofs.Laws.Costs.{forest-legal, forest-best}
 use Rattle.weighted_tree.proofs.Laws.Picking.{pick}
 
@@ -66,7 +66,7 @@ module _ (n k x y : ℕ) (J : Joining) (n-apart : x ≢ y) (x-in : (1 ≤ x) × 
   abbrev b : ℕ
   b = n + suc k
 
-  joined : Joined n k x y (weightOf (J .totals)) (parentOf (J .parents)) (weightOf (joinTwo J (n + suc k) x y .totals)) (parentOf (joinTwo J (n + suc k) x y .parents))
+  joined : JoinStep n k x y (weightOf (J .totals)) (parentOf (J .parents)) (weightOf (joinTwo J (n + suc k) x y .totals)) (parentOf (joinTwo J (n + suc k) x y .parents))
   joined =
       let W : List ℕ = J .totals in
       let P : List ℕ = J .parents in
@@ -92,7 +92,7 @@ module _ (n : ℕ) (w : List ℕ) (k : ℕ) (J : Joining) (h : Held n w k J) whe
     forest = forest-join n k (h .active) _ _ x y _ _ (h .forest) c j;
   }
     where
-      j : Joined n k x y (weightOf (J .totals)) (parentOf (J .parents)) (weightOf (joinTwo J (n + suc k) x y .totals)) (parentOf (joinTwo J (n + suc k) x y .parents))
+      j : JoinStep n k x y (weightOf (J .totals)) (parentOf (J .parents)) (weightOf (joinTwo J (n + suc k) x y .totals)) (parentOf (joinTwo J (n + suc k) x y .parents))
       j = joined n k x y J (c .apart) (c .x-in) (c .y-in) (omega (arith, h .totals-long)) (omega (arith, h .parents-long)) (h .unborn (n + suc k) (omega arith))
 
       P′ : List ℕ
@@ -111,7 +111,7 @@ module _ (n : ℕ) (w : List ℕ) (k : ℕ) (J : Joining) (h : Held n w k J) whe
   -- no joint weight exceeds that of all the sinks
   pub held-joint : (x y : ℕ) → suc k < n → Pick n k (weightOf (J .totals)) (parentOf (J .parents)) x y → weightOf (J .totals) x + weightOf (J .totals) y ≤ sumOver (down 0 n) (weightOf w)
   held-joint x y more c =
-      let j : Joined n k x y (weightOf (J .totals)) (parentOf (J .parents)) (weightOf (joinTwo J (n + suc k) x y .totals)) (parentOf (joinTwo J (n + suc k) x y .parents))
+      let j : JoinStep n k x y (weightOf (J .totals)) (parentOf (J .parents)) (weightOf (joinTwo J (n + suc k) x y .totals)) (parentOf (joinTwo J (n + suc k) x y .parents))
       = joined n k x y J (c .apart) (c .x-in) (c .y-in) (omega (arith, h .totals-long)) (omega (arith, h .parents-long)) (h .unborn (n + suc k) (omega arith)) in
       omega (
         arith,
