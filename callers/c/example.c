@@ -1,8 +1,8 @@
 /* Plans a net of three sinks, judges the plan, does the same where a nanometre
- * upward costs more than one across and for a short tree, which does not look
- * at need; then asks for too much, hands over one wire
- * factor for two, a pin too far from the root, and texts and an output of no
- * bytes.
+ * upward costs more than one across, for a short tree and for one by weights,
+ * which do not look at need; then asks for too much, hands over one wire factor
+ * for two, a pin too far from the root, a sink without its weight, and texts and
+ * an output of no bytes.
  *
  * Build and run, from the repository's root:
  *   cc -o target/example callers/c/example.c target/staticlib/librepeater_tree.a \
@@ -16,8 +16,8 @@
 
 #define NET_WITH(wire, need, last)                                 \
     "root=0,0\nbranch=20\nwire=" wire "\nneed=" need "\nsinks=3\n" \
-    "sink=10,0,100\nsink=4,6,60\nsink=" last "\n"
-#define NET(need) NET_WITH("2,2", need, "10,10,70")
+    "sink=10,0,100,5\nsink=4,6,60,1\nsink=" last "\n"
+#define NET(need) NET_WITH("2,2", need, "10,10,70,1")
 
 /* The calls that plan have one shape. */
 typedef uint8_t planner(const uint8_t *, size_t, uint8_t *, size_t,
@@ -42,7 +42,7 @@ static const struct due one_metal = {
 static const struct due two_metals = {
     repeater_tree_plan,
     "root=0,0\nbranch=20\nwire=2,6\nneed=0\nsinks=3\n"
-    "sink=10,0,100\nsink=4,6,110\nsink=10,10,150\n", 30, 26, 30,
+    "sink=10,0,100,1\nsink=4,6,110,1\nsink=10,10,150,1\n", 30, 26, 30,
     "slack=30\nwire=26\nsinks=3\nleaf=1,5\nleaf=2,4\nleaf=3,5\n"
     "node=4,0,4,0\nnode=5,4,10,0\n"};
 
@@ -52,6 +52,13 @@ static const struct due short_tree = {
     repeater_tree_plan_short, NET("1"), -10, 26, 0,
     "slack=-10\nwire=26\nsinks=3\nleaf=1,5\nleaf=2,4\nleaf=3,5\n"
     "node=4,0,4,0\nnode=5,4,10,0\n"};
+
+/* The pin that switches most has one branch point above it, the others two; a
+ * need that no tree has is not looked at here either. */
+static const struct due weighted_tree = {
+    repeater_tree_plan_weighted, NET("1"), -10, 26, 0,
+    "slack=-10\nwire=26\nsinks=3\nleaf=1,5\nleaf=2,4\nleaf=3,4\n"
+    "node=4,5,4,6\nnode=5,0,4,0\n"};
 
 static const uint8_t *bytes_of(const char *s) { return (const uint8_t *)s; }
 
@@ -145,6 +152,8 @@ static int nothing_lent(void) {
         || plan_refused(repeater_tree_plan, "no output", net, strlen(net), NULL, 0, no_output)
         || plan_refused(repeater_tree_plan_short, "no net, no output", NULL, 0, NULL, 0, no_net)
         || plan_refused(repeater_tree_plan_short, "no output", net, strlen(net), NULL, 0, no_output)
+        || plan_refused(repeater_tree_plan_weighted, "no net, no output", NULL, 0, NULL, 0, no_net)
+        || plan_refused(repeater_tree_plan_weighted, "no output", net, strlen(net), NULL, 0, no_output)
         || judge_refused("no net, no listing", NULL, 0, NULL, 0, no_net)
         || judge_refused("no listing", net, strlen(net), NULL, 0, no_listing);
 }
@@ -154,8 +163,10 @@ int main(void) {
     const struct refusal unreachable = {REPEATER_TREE_UNREACHABLE, 1, 4};
     const struct refusal one_factor = {REPEATER_TREE_MALFORMED, 1, 3};
     const struct refusal far_pin = {REPEATER_TREE_FAR_PIN, 1, 8};
-    const char *too_much = NET("1"), *one = NET_WITH("2", "0", "10,10,70");
-    const char *far = NET_WITH("2,2", "0", "10,40000000,70");
+    const struct refusal no_weight = {REPEATER_TREE_MALFORMED, 1, 8};
+    const char *too_much = NET("1"), *one = NET_WITH("2", "0", "10,10,70,1");
+    const char *far = NET_WITH("2,2", "0", "10,40000000,70,1");
+    const char *bare = NET_WITH("2,2", "0", "10,10,70");
     size_t bytes = 0;
     printf("version %d.%d.%d\n", REPEATER_TREE_VERSION_MAJOR,
            REPEATER_TREE_VERSION_MINOR, REPEATER_TREE_VERSION_PATCH);
@@ -165,8 +176,11 @@ int main(void) {
         || judge(&two_metals, out, bytes)
         || plan(&short_tree, out, sizeof out, &bytes)
         || judge(&short_tree, out, bytes)
+        || plan(&weighted_tree, out, sizeof out, &bytes)
+        || judge(&weighted_tree, out, bytes)
         || plan_refused(repeater_tree_plan, "need=1", too_much, strlen(too_much), out, sizeof out, unreachable)
         || plan_refused(repeater_tree_plan, "wire=2", one, strlen(one), out, sizeof out, one_factor)
         || plan_refused(repeater_tree_plan_short, "a far pin", far, strlen(far), out, sizeof out, far_pin)
+        || plan_refused(repeater_tree_plan_weighted, "no weight", bare, strlen(bare), out, sizeof out, no_weight)
         || nothing_lent();
 }

@@ -1,11 +1,15 @@
-/* The repeater tree planner: three calls on text.
+/* The repeater tree planner: four calls on text.
  *
- * docs/FORMAT.md has the two texts, their ranges and the rules of the two plans.
+ * docs/FORMAT.md has the two texts, their ranges and the rules of the three
+ * plans.
  * Positions and lengths are in nanometres (nm), times in attoseconds (as),
  * the two wire factors in as per nm, which is fs per um. A distance is
  * |dx| + |dy|. The net's line wire=h,v gives a factor for each metal direction,
  * 1 to 10,000: an edge delays by h * |dx| + v * |dy|. Wire, nearness and the
  * pin limit are plain nanometres, and the listing's line wire=L has one number.
+ * The net's line sink=X,Y,a,w gives a sink's position, its required arrival and
+ * its switching weight, 1 to 1,000. plan_weighted alone goes by the weights; the
+ * other calls read them and do not look at them.
  *
  * What the caller owes:
  *   - the pointer to a text or an output is valid for its length; where the
@@ -30,7 +34,7 @@ extern "C" {
 /* While MAJOR is 0, another MINOR may change the texts, the answers or the
  * calls; another PATCH changes none of them. */
 #define REPEATER_TREE_VERSION_MAJOR 0
-#define REPEATER_TREE_VERSION_MINOR 7
+#define REPEATER_TREE_VERSION_MINOR 8
 #define REPEATER_TREE_VERSION_PATCH 0
 
 /* The longest texts that are read, in bytes. No listing that a plan writes
@@ -40,6 +44,9 @@ extern "C" {
 
 /* The farthest that a sink may stand from the root, |dx| + |dy|, in nm. */
 #define REPEATER_TREE_PIN_LIMIT 40000000
+
+/* The largest weight of a sink; the least is 1. */
+#define REPEATER_TREE_WEIGHT_LIMIT 1000
 
 /* No call takes more of its thread's stack, in bytes. The caller's own frames,
  * and what the system keeps on a thread's stack, come on top. */
@@ -63,7 +70,7 @@ enum {
     /* plan: no legal tree has the worst slack that the net's need line asks
      * for. Text 1, line 4. */
     REPEATER_TREE_UNREACHABLE = 5,
-    /* plan, plan_short: the output is shorter than the listing.
+    /* plan, plan_short, plan_weighted: the output is shorter than the listing.
      * Text 0, line 0. */
     REPEATER_TREE_SHORT_OUTPUT = 6,
     /* judge: the listing's number of sinks is not the net's. Text 2, line 3. */
@@ -137,6 +144,31 @@ uint8_t repeater_tree_plan_short(const uint8_t *net, size_t net_length,
                                  uint8_t *text, size_t *line,
                                  int64_t *slack, uint64_t *wire, size_t *bytes);
 
+/* Plans a tree for the net by its sinks' weights and writes its listing to out:
+ * one whose sum of weight * delay is at most that of every legal tree over the
+ * net, at whatever integer points, a sink's delay being its required arrival
+ * minus its slack. The two vertices of least total weight are joined until one
+ * is left, which hangs on the root; ties go to the lowest numbers, and branch
+ * points are numbered in order of joining. Then they settle as plan's do. The
+ * net's need is read but not looked at, so 5 is never told; the worst slack may
+ * be less than the best. The same net always gives the same bytes.
+ *
+ *   net, net_length   the net text
+ *   out, out_length   where the listing goes; bytes beyond it keep their values
+ *   text              the refusal's text, 0 to 1
+ *   line              the refusal's line, 0 to 518
+ *   slack             the tree's worst slack in as,
+ *                     -1,000,426,000,000,000 to 1,000,000,000,000,000
+ *   wire              the tree's wire in nm, 0 to 20,480,000,000
+ *   bytes             the listing's length, 0 to 32,768
+ *
+ * Every figure is written by every call. At a refusal (1 to 4, 6, 13) slack,
+ * wire and bytes are 0 and no byte of out is changed. */
+uint8_t repeater_tree_plan_weighted(const uint8_t *net, size_t net_length,
+                                    uint8_t *out, size_t out_length,
+                                    uint8_t *text, size_t *line,
+                                    int64_t *slack, uint64_t *wire, size_t *bytes);
+
 /* Measures the tree of a listing over its net, and tells whether what the
  * listing states is true. The net's need is read but not looked at.
  *
@@ -183,6 +215,18 @@ static inline uint8_t repeater_tree_plan_short_lent(
     return repeater_tree_plan_short(net_length == 0 ? &no_text : net, net_length,
                                     out_length == 0 ? &no_output : out, out_length,
                                     text, line, slack, wire, bytes);
+}
+
+static inline uint8_t repeater_tree_plan_weighted_lent(
+    const uint8_t *net, size_t net_length,
+    uint8_t *out, size_t out_length,
+    uint8_t *text, size_t *line,
+    int64_t *slack, uint64_t *wire, size_t *bytes) {
+    const uint8_t no_text = 0;
+    uint8_t no_output = 0;
+    return repeater_tree_plan_weighted(net_length == 0 ? &no_text : net, net_length,
+                                       out_length == 0 ? &no_output : out, out_length,
+                                       text, line, slack, wire, bytes);
 }
 
 static inline uint8_t repeater_tree_judge_lent(
@@ -233,6 +277,7 @@ static inline const char *repeater_tree_words(uint8_t number, size_t line) {
 
 #define repeater_tree_plan repeater_tree_plan_lent
 #define repeater_tree_plan_short repeater_tree_plan_short_lent
+#define repeater_tree_plan_weighted repeater_tree_plan_weighted_lent
 #define repeater_tree_judge repeater_tree_judge_lent
 
 #ifdef __cplusplus

@@ -88,24 +88,29 @@ static void make_net(int sinks) {
     char *at = (char *)net;
     at += sprintf(at, "root=0,0\nbranch=20\nwire=2,3\nneed=-2000000000000000\nsinks=%d\n", sinks);
     for (int k = 1; k <= sinks; k++)
-        at += sprintf(at, "sink=%d,%d,%d\n", k * 37 % 1000, -(k * 91 % 1000), k * 53 % 97);
+        at += sprintf(at, "sink=%d,%d,%d,%d\n", k * 37 % 1000, -(k * 91 % 1000), k * 53 % 97,
+                      1 + k * 71 % REPEATER_TREE_WEIGHT_LIMIT);
     net_length = (size_t)(at - (char *)net);
 }
 
 int main(void) {
     static const int sizes[] = {1, 16, 17, 64, 65, 512};
     size_t most = 0;
-    puts("bytes of stack:\nsinks  plan  plan, no byte to spare  judge  short tree  no byte to spare");
+    puts("bytes of stack:\nsinks  plan  plan, no byte to spare  judge  short tree  no byte to spare"
+         "  by weights  no byte to spare");
     for (size_t i = 0; i < sizeof sizes / sizeof *sizes; i++) {
-        size_t used[5];
+        size_t used[7];
         make_net(sizes[i]);
         used[0] = used_by(plan, repeater_tree_plan, sizeof listing);
         used[1] = used_by(plan, repeater_tree_plan, listing_length);
         used[2] = used_by(judge, NULL, 0);
         used[3] = used_by(plan, repeater_tree_plan_short, sizeof listing);
         used[4] = used_by(plan, repeater_tree_plan_short, listing_length);
-        printf("%5d %6zu %22zu %6zu %11zu %16zu\n", sizes[i], used[0], used[1], used[2], used[3], used[4]);
-        for (size_t j = 0; j < 5; j++)
+        used[5] = used_by(plan, repeater_tree_plan_weighted, sizeof listing);
+        used[6] = used_by(plan, repeater_tree_plan_weighted, listing_length);
+        printf("%5d %6zu %22zu %6zu %11zu %16zu %11zu %16zu\n", sizes[i],
+               used[0], used[1], used[2], used[3], used[4], used[5], used[6]);
+        for (size_t j = 0; j < sizeof used / sizeof *used; j++)
             if (used[j] > most) most = used[j];
     }
     printf("at most %zu, REPEATER_TREE_STACK is %d\n", most, REPEATER_TREE_STACK);
