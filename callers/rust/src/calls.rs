@@ -47,6 +47,18 @@ extern "C" {
         bytes: *mut usize,
     ) -> u8;
 
+    fn repeater_tree_plan_weighted(
+        net: *const u8,
+        net_length: usize,
+        out: *mut u8,
+        out_length: usize,
+        text: *mut u8,
+        line: *mut usize,
+        slack: *mut i64,
+        wire: *mut u64,
+        bytes: *mut usize,
+    ) -> u8;
+
     fn repeater_tree_judge(
         net: *const u8,
         net_length: usize,
@@ -99,6 +111,11 @@ pub fn plan_figures(net: &[u8], out: &mut [u8], f: &mut PlanFigures) {
 /// Plans a short tree, and overwrites every figure.
 pub fn plan_short_figures(net: &[u8], out: &mut [u8], f: &mut PlanFigures) {
     plan_by(repeater_tree_plan_short, net, out, f);
+}
+
+/// Plans a tree by its sinks' weights, and overwrites every figure.
+pub fn plan_weighted_figures(net: &[u8], out: &mut [u8], f: &mut PlanFigures) {
+    plan_by(repeater_tree_plan_weighted, net, out, f);
 }
 
 /// Judges, and overwrites every figure.

@@ -4,10 +4,12 @@
 //! `docs/FORMAT.md` has the two texts. The net's line `wire=h,v` gives what a
 //! nanometre costs in each metal direction: an edge delays by
 //! h × |dx| + v × |dy|. Wire, nearness and the pin limit are plain nanometres.
+//! A sink's line `sink=X,Y,a,w` ends with its switching weight, which
+//! [`plan_weighted`] alone goes by.
 //!
 //! ```
 //! // 3 across at 2 and 4 upward at 5: 26 of the 32 attoseconds.
-//! let net = b"root=0,0\nbranch=20\nwire=2,5\nneed=0\nsinks=1\nsink=3,4,32\n";
+//! let net = b"root=0,0\nbranch=20\nwire=2,5\nneed=0\nsinks=1\nsink=3,4,32,1\n";
 //! let mut out = [0; repeater_tree::LISTING_LENGTH];
 //! let plan = repeater_tree::plan(net, &mut out).unwrap();
 //! assert_eq!((plan.slack, plan.wire), (6, 7));
@@ -19,18 +21,23 @@
 mod calls;
 mod refusal;
 
-pub use calls::{judge_figures, plan_figures, plan_short_figures, JudgeFigures, PlanFigures};
+pub use calls::{
+    judge_figures, plan_figures, plan_short_figures, plan_weighted_figures, JudgeFigures,
+    PlanFigures,
+};
 pub use refusal::Refusal;
 
 /// The longest net text that is read, in bytes.
 pub const NET_LENGTH: usize = 32_768;
-/// The longest listing that is read, in bytes; enough for every plan of either
+/// The longest listing that is read, in bytes; enough for every plan of any
 /// kind.
 pub const LISTING_LENGTH: usize = 32_768;
 /// The farthest that a sink may stand from the root, |dx| + |dy|, in
 /// nanometres. A net with a farther one is refused by number 13, on the
 /// sink's line: it belongs to the global planner.
 pub const PIN_LIMIT: u64 = 40_000_000;
+/// The largest weight of a sink; the least is 1.
+pub const WEIGHT_LIMIT: u64 = 1_000;
 /// No call takes more of its thread's stack, in bytes. The caller's own frames,
 /// and what the system keeps on a thread's stack, come on top.
 pub const STACK: usize = 81_920;
@@ -41,7 +48,8 @@ pub struct Plan {
     /// Worst slack, in attoseconds. Of [`plan`] the largest of any legal tree
     /// over the net, -1,000,409,000,000,000 to 1,000,000,000,000,000; of
     /// [`plan_short`] that of the short tree, -1,205,311,000,000,000 to
-    /// 1,000,000,000,000,000.
+    /// 1,000,000,000,000,000; of [`plan_weighted`] that of its tree,
+    /// -1,000,426,000,000,000 to 1,000,000,000,000,000.
     pub slack: i64,
     /// Wire, in nanometres, 0 to 20,480,000,000.
     pub wire: u64,
@@ -86,7 +94,7 @@ pub fn plan(net: &[u8], out: &mut [u8]) -> Result<Plan, Refusal> {
 ///
 /// ```
 /// // The wire to the second pin goes on from the first: 9 and 5.
-/// let net = b"root=0,0\nbranch=20\nwire=1,1\nneed=0\nsinks=2\nsink=9,0,40\nsink=9,5,40\n";
+/// let net = b"root=0,0\nbranch=20\nwire=1,1\nneed=0\nsinks=2\nsink=9,0,40,1\nsink=9,5,40,1\n";
 /// let mut out = [0; repeater_tree::LISTING_LENGTH];
 /// let short = repeater_tree::plan_short(net, &mut out).unwrap();
 /// assert_eq!((short.slack, short.wire), (6, 14));
@@ -95,6 +103,30 @@ pub fn plan(net: &[u8], out: &mut [u8]) -> Result<Plan, Refusal> {
 pub fn plan_short(net: &[u8], out: &mut [u8]) -> Result<Plan, Refusal> {
     let mut f = PlanFigures::default();
     plan_short_figures(net, out, &mut f);
+    planned(f)
+}
+
+/// Plans a tree for the net by its sinks' weights and writes the listing to the
+/// front of `out`, as [`plan`] does. The two vertices of least total weight are
+/// joined until one is left, ties going to the lowest numbers; then branch points
+/// settle. No legal tree over the net has a lower sum of weight × delay, a sink's
+/// delay being its required arrival minus its slack. The net's need is not looked
+/// at, so refusal 5 is never given, and the worst slack may be less than the best.
+/// The other calls read the weights and do not look at them.
+///
+/// ```
+/// // The first pin switches most, so it is joined last: one branch point above
+/// // it, two above the others.
+/// let net = b"root=0,0\nbranch=20\nwire=1,1\nneed=0\nsinks=3\n\
+///     sink=9,0,40,5\nsink=9,5,70,1\nsink=9,9,70,1\n";
+/// let mut out = [0; repeater_tree::LISTING_LENGTH];
+/// let weighted = repeater_tree::plan_weighted(net, &mut out).unwrap();
+/// assert_eq!((weighted.slack, weighted.wire), (11, 18));
+/// assert!(out.starts_with(b"slack=11\nwire=18\nsinks=3\nleaf=1,5\nleaf=2,4\nleaf=3,4\n"));
+/// ```
+pub fn plan_weighted(net: &[u8], out: &mut [u8]) -> Result<Plan, Refusal> {
+    let mut f = PlanFigures::default();
+    plan_weighted_figures(net, out, &mut f);
     planned(f)
 }
 

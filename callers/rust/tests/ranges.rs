@@ -1,6 +1,7 @@
-//! Each end of the ranges of plan's and judge's figures is reached.
+//! Each end of the ranges of plan's and judge's figures is reached, and the most
+//! wire of a plan by weights.
 
-use repeater_tree::{judge, plan, Measures, LISTING_LENGTH};
+use repeater_tree::{judge, plan, plan_weighted, Measures, LISTING_LENGTH};
 
 const CORNER: i64 = -100_000_000;
 const OPPOSITE: i64 = 100_000_000;
@@ -8,7 +9,7 @@ const OPPOSITE: i64 = 100_000_000;
 /// Sinks at x,-100000000 with the same required arrival; the root stands in that
 /// corner, and branch points and wire cost as much as they may.
 fn net(sinks: usize, x: i64, required: i64) -> Vec<u8> {
-    let sink = format!("sink={x},{CORNER},{required}\n");
+    let sink = format!("sink={x},{CORNER},{required},1\n");
     let head = format!("root={CORNER},{CORNER}\nbranch=1000000000\nwire=10000,10000\n");
     format!(
         "{head}need=-2000000000000000\nsinks={sinks}\n{}",
@@ -86,4 +87,21 @@ fn the_longest_wire() {
     let slack = -10_000 * 400_000_000 * 10 - 9 * 1_000_000_000;
     let measures = judge(&net, &listing(slack, 409_200_000_000, &parents)).unwrap();
     assert_eq!(measures.wire, 409_200_000_000);
+}
+
+/// Pins on both sides of the root by turns, as far off as they may stand: sinks
+/// of equal weight are joined two by two, and every branch point settles at the
+/// root.
+#[test]
+fn the_longest_wire_by_weights() {
+    let mut net = "root=0,0\nbranch=20\nwire=2,2\nneed=0\nsinks=512\n".to_string();
+    net += &"sink=-40000000,0,0,1\nsink=40000000,0,0,1\n".repeat(256);
+    let mut out = [0; LISTING_LENGTH];
+    let weighted = plan_weighted(net.as_bytes(), &mut out).unwrap();
+    let measures = judge(net.as_bytes(), &out[..weighted.bytes]).unwrap();
+    assert_eq!(weighted.wire, 20_480_000_000);
+    assert_eq!(
+        (measures.slack, measures.wire),
+        (weighted.slack, weighted.wire)
+    );
 }

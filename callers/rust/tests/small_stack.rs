@@ -1,6 +1,8 @@
 //! The calls in a thread whose stack has little more than they take.
 
-use repeater_tree::{judge, plan, LISTING_LENGTH, STACK};
+use repeater_tree::{
+    judge, plan, plan_short, plan_weighted, Plan, Refusal, LISTING_LENGTH, STACK, WEIGHT_LIMIT,
+};
 use std::thread;
 
 /// What the system keeps on a thread's stack and what Rust puts there before
@@ -12,23 +14,35 @@ fn net(sinks: usize) -> Vec<u8> {
     let mut text =
         format!("root=0,0\nbranch=20\nwire=2,3\nneed=-2000000000000000\nsinks={sinks}\n");
     for k in 1..=sinks {
-        text += &format!("sink={},{},{}\n", k * 37 % 1000, k * 91 % 1000, k * 53 % 97);
+        let weight = 1 + k * 71 % WEIGHT_LIMIT as usize;
+        let (x, y, required) = (k * 37 % 1000, k * 91 % 1000, k * 53 % 97);
+        text += &format!("sink={x},{y},{required},{weight}\n");
     }
     text.into_bytes()
 }
 
+type Planner = fn(&[u8], &mut [u8]) -> Result<Plan, Refusal>;
+
 /// The output and the net lie on the heap: they are the caller's, and only what
 /// the calls themselves take is tried.
-fn plan_and_judge(sinks: usize) {
-    let net = net(sinks);
+fn plan_and_judge(planner: Planner, net: &[u8]) -> (Plan, i64) {
     let mut out = vec![0; LISTING_LENGTH];
-    let long = plan(&net, &mut out).unwrap();
+    let long = planner(net, &mut out).unwrap();
     let listing = out[..long.bytes].to_vec();
-    let exact = plan(&net, &mut out[..long.bytes]).unwrap();
-    let measures = judge(&net, &listing).unwrap();
+    let exact = planner(net, &mut out[..long.bytes]).unwrap();
+    let measures = judge(net, &listing).unwrap();
     assert_eq!((exact, &out[..exact.bytes]), (long, &listing[..]));
     assert_eq!((measures.slack, measures.wire), (long.slack, long.wire));
-    assert_eq!(measures.best, long.slack);
+    (long, measures.best)
+}
+
+fn every_call(sinks: usize) {
+    let net = net(sinks);
+    let (first, best) = plan_and_judge(plan, &net);
+    assert_eq!(first.slack, best);
+    for planner in [plan_short, plan_weighted] {
+        assert_eq!(plan_and_judge(planner, &net).1, best);
+    }
 }
 
 /// On both sides of each size of the arrays.
@@ -37,7 +51,7 @@ fn every_size_of_net() {
     for sinks in [1, 16, 17, 64, 65, 512] {
         thread::Builder::new()
             .stack_size(STACK + BESIDE)
-            .spawn(move || plan_and_judge(sinks))
+            .spawn(move || every_call(sinks))
             .unwrap()
             .join()
             .unwrap();

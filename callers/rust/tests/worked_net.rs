@@ -1,6 +1,6 @@
-//! The worked nets of docs/FORMAT.md: their texts are what plan and judge give.
+//! The worked nets of docs/FORMAT.md: their texts are what the calls give.
 
-use repeater_tree::{judge, plan, LISTING_LENGTH};
+use repeater_tree::{judge, plan, plan_short, plan_weighted, Plan, Refusal, LISTING_LENGTH};
 
 const PAGE: &str = include_str!("../../../docs/FORMAT.md");
 
@@ -42,11 +42,26 @@ fn the_page_tells_what_is_given() {
 
 #[test]
 fn the_page_tells_what_two_factors_give() {
+    gives(3, plan);
+}
+
+#[test]
+fn the_page_tells_what_a_short_tree_is() {
+    gives(5, plan_short);
+}
+
+#[test]
+fn the_page_tells_what_weights_give() {
+    gives(7, plan_weighted);
+}
+
+/// A net stands at this place of the blocks, and what is given for it behind it.
+fn gives(at: usize, planner: fn(&[u8], &mut [u8]) -> Result<Plan, Refusal>) {
     let blocks = blocks();
-    let [net, listing] = &blocks[3..5] else {
+    let Some([net, listing]) = blocks.get(at..at + 2) else {
         panic!("a net and its listing are due")
     };
     let mut out = [0; LISTING_LENGTH];
-    let planned = plan(net.as_bytes(), &mut out).unwrap();
+    let planned = planner(net.as_bytes(), &mut out).unwrap();
     assert_eq!(&out[..planned.bytes], listing.as_bytes());
 }
