@@ -8,8 +8,8 @@
  * 1 to 10,000: an edge delays by h * |dx| + v * |dy|. Wire, nearness and the
  * pin limit are plain nanometres, and the listing's line wire=L has one number.
  * The net's line sink=X,Y,a,w gives a sink's position, its required arrival and
- * its switching weight, 1 to 1,000. plan_weighted alone goes by the weights; the
- * other calls read them and do not look at them.
+ * its switching weight, 1 to 1,000. plan_weighted alone goes by the weights;
+ * the other calls read them and do not look at them.
  *
  * What the caller owes:
  *   - the pointer to a text or an output is valid for its length; where the
