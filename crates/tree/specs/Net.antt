@@ -8,7 +8,7 @@ use Rattle.quantities.specs.declared.point.Point.{Point}
 use Rattle.quantities.specs.Delay.{delay}
 use Rattle.tree.specs.Lists.{range}
 
--- `sink=X,Y,a`: a is the required arrival
+-- `sink=X,Y,a,w`: a is the required arrival. The weight w stands beside the net (Weights)
 pub record Sink : Type 0 where
   pub point : Point
   pub required : ℤ
