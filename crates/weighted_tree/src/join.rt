@@ -12,12 +12,12 @@ ghost use Rattle.tree.specs.Limits.{sinkLimit, WeightsInRange};
 ghost use Rattle.tree.specs.Inner.Arrays.{parentsOf, weightsOf, HoldsWeights};
 ghost use Rattle.tree.specs.Inner.Insertion.{earlierBy};
 ghost use Rattle.weighted_tree.specs.Joining.{joinedAfter, joinedParents};
-ghost use Rattle.weighted_tree.specs.Inner.Arrays.{Sinks, SinkFirst, BranchFirst, Takes, Joined};
+ghost use Rattle.weighted_tree.specs.Inner.Arrays.{SomeWait, SinkFirst, BranchFirst, Takes, Joined};
 use tree::places::clear;
 
 // Whether the sink at place i of `order` goes before the branch point n + j + 1: also on a tie, since its number is lower. k branch points are made.
 fn sink_goes_first(n: usize, k: usize, weights: &[i64], order: &[usize], i: usize, j: usize) -> bool
-    requires { ⌜ (k < n) × (n ≤ sinkLimit) × (2 * n ≤ length (now weights)) × (n ≤ length (now order)) × (i ≤ n) × (j ≤ k) × (i + j < n + k) × Sinks n (now order) ⌝ }
+    requires { ⌜ SomeWait n k (now weights) (now order) i j ⌝ }
     ensures { λ r. ⌜ cond r (SinkFirst n k (λ v. getD (now (weights .entry)) v (pos 0)) (λ q. getD (now (order .entry)) q 0) i j) (BranchFirst n k (λ v. getD (now (weights .entry)) v (pos 0)) (λ q. getD (now (order .entry)) q 0) i j) ⌝ }
 {
     if i == n {
@@ -41,7 +41,7 @@ struct Taken {
 
 // The first of the two queues is taken off.
 fn take_first(n: usize, k: usize, weights: &[i64], order: &[usize], i: usize, j: usize) -> Taken
-    requires { ⌜ (k < n) × (n ≤ sinkLimit) × (2 * n ≤ length (now weights)) × (n ≤ length (now order)) × (i ≤ n) × (j ≤ k) × (i + j < n + k) × Sinks n (now order) ⌝ }
+    requires { ⌜ SomeWait n k (now weights) (now order) i j ⌝ }
     ensures { λ r. ⌜ Takes n k (λ v. getD (now (weights .entry)) v (pos 0)) (λ q. getD (now (order .entry)) q 0) i j (r .vertex) (r .sinks) (r .branches) ⌝ }
 {
     if sink_goes_first(n, k, weights, order, i, j) {

@@ -8,6 +8,7 @@ use lib.IntN.{ℤ, pos}
 use lib.Signed.{_≤ℤ_, _<ℤ_}
 use Rattle.tree.specs.Tree.{parentOf}
 use Rattle.tree.specs.Weights.{weightOf}
+use Rattle.tree.specs.Limits.{sinkLimit}
 use Rattle.tree.specs.Inner.Arrays.{parentsOf}
 use Rattle.weighted_tree.specs.Joining.{Joining}
 
@@ -17,6 +18,10 @@ Sinks n order = (q : ℕ) → q < n → (1 ≤ getD order q 0) × (getD order q 
 
 -- ---- Two queues, of n sinks and of k branch points: O q is the sink at place q, W v the total weight of v. The first i sinks and the first j branch
 -- points have been taken.
+
+-- the arrays have the queues of n sinks and k branch points, and some vertex waits
+abbrev pub SomeWait : ℕ → ℕ → List ℤ → List ℕ → ℕ → ℕ → Type 0
+SomeWait n k weights order i j = (k < n) × (n ≤ sinkLimit) × (2 * n ≤ length weights) × (n ≤ length order) × (i ≤ n) × (j ≤ k) × (i + j < n + k) × Sinks n order
 
 -- u waits
 abbrev pub Waits : ℕ → ℕ → (ℕ → ℕ) → ℕ → ℕ → ℕ → Type 0
