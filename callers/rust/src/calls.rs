@@ -22,6 +22,15 @@ pub struct JudgeFigures {
     pub best: i64,
 }
 
+/// All figures of a score call.
+#[derive(Clone, Copy, Debug, Default, PartialEq)]
+pub struct ScoreFigures {
+    pub number: u8,
+    pub text: u8,
+    pub line: usize,
+    pub score: f64,
+}
+
 extern "C" {
     fn repeater_tree_plan(
         net: *const u8,
@@ -69,6 +78,19 @@ extern "C" {
         slack: *mut i64,
         wire: *mut u64,
         best: *mut i64,
+    ) -> u8;
+
+    fn repeater_tree_score(
+        net: *const u8,
+        net_length: usize,
+        listing: *const u8,
+        listing_length: usize,
+        alpha_1024ths: i64,
+        beta_1024ths: i64,
+        cap: i64,
+        text: *mut u8,
+        line: *mut usize,
+        score: *mut f64,
     ) -> u8;
 }
 
@@ -132,6 +154,32 @@ pub fn judge_figures(net: &[u8], listing: &[u8], f: &mut JudgeFigures) {
             &mut f.slack,
             &mut f.wire,
             &mut f.best,
+        )
+    };
+}
+
+/// Scores, and overwrites every figure.
+pub fn score_figures(
+    net: &[u8],
+    listing: &[u8],
+    alpha_1024ths: i64,
+    beta_1024ths: i64,
+    cap: i64,
+    f: &mut ScoreFigures,
+) {
+    // SAFETY: as above; the two texts are only read.
+    f.number = unsafe {
+        repeater_tree_score(
+            net.as_ptr(),
+            net.len(),
+            listing.as_ptr(),
+            listing.len(),
+            alpha_1024ths,
+            beta_1024ths,
+            cap,
+            &mut f.text,
+            &mut f.line,
+            &mut f.score,
         )
     };
 }

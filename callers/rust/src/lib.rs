@@ -22,8 +22,8 @@ mod calls;
 mod refusal;
 
 pub use calls::{
-    judge_figures, plan_figures, plan_short_figures, plan_weighted_figures, JudgeFigures,
-    PlanFigures,
+    judge_figures, plan_figures, plan_short_figures, plan_weighted_figures, score_figures,
+    JudgeFigures, PlanFigures, ScoreFigures,
 };
 pub use refusal::Refusal;
 
