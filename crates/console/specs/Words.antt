@@ -1,11 +1,11 @@
--- A refusal in plain words, for standard error: one row for each row of 01's table 'Refusals by text and line' and for that of 02's request 2. Definitions alone.
+-- A refusal in plain words, for standard error: one row for each row of 01's table 'Refusals by text and line' and for those of 02's requests 2 and 8. Definitions alone.
 use Prim.Native.Nat.{ℕ, zero, suc}
 use mathlib.Core.List.{List, [], _∷_, _++_}
 use Rattle.formats.specs.Bytes.{bytes, endByte}
 use Rattle.formats.specs.Decimal.{showNat}
 use Rattle.formats.specs.Refusals.{told}
 use Rattle.formats.specs.declared.refusal.Refusal.{Refusal}
-use Rattle.formats.specs.declared.refusal.Refusal.the-variants.{TooLong, NotDue, OutOfRange, BytesFollow, Unreachable, TooShort, OtherCount, SinkParent, WrongChildren, NotReached, OtherSlack, OtherWire, FarPin}
+use Rattle.formats.specs.declared.refusal.Refusal.the-variants.{TooLong, NotDue, OutOfRange, BytesFollow, Unreachable, TooShort, OtherCount, SinkParent, WrongChildren, NotReached, OtherSlack, OtherWire, FarPin, NotScored}
 
 -- "wrong number of children; line 0 for the root, else the lowest such branch point's"
 abbrev pub childrenWords : ℕ → List ℕ
@@ -37,6 +37,8 @@ words OtherSlack = bytes "the stated slack is not the tree's worst slack"
 words OtherWire = bytes "the stated wire is not the tree's wire"
 -- 02, request 2: "A sink more than" the pin limit "from the root is refused"
 words (FarPin line) = bytes "the sink is too far from the root"
+-- 02, request 8: "if A, B or the cap is out of range or min(..) is below -1,000,000,000,000"
+words NotScored = bytes "alpha, beta or the cap is out of range, or the slack too low"
 
 -- "Text 1 is the net, 2 the listing, 0 neither.": then it is the output
 abbrev pub textName : List ℕ → List ℕ → ℕ → List ℕ

@@ -48,5 +48,10 @@ pub fn put_words(out: &mut [u8], at: usize, refusal: Refusal) -> usize
         ),
         Refusal::OtherWire => put_bytes(out, at, b"the stated wire is not the tree's wire"),
         Refusal::FarPin { line } => put_bytes(out, at, b"the sink is too far from the root"),
+        Refusal::NotScored => put_bytes(
+            out,
+            at,
+            b"alpha, beta or the cap is out of range, or the slack too low",
+        ),
     }
 }

@@ -1,4 +1,4 @@
-// Why an operation refuses: a case for each row of 01's table, and for the far pin of 02's request 2.
+// Why an operation refuses: a case for each row of 01's table, for the far pin of 02's request 2 and for the score of its request 8.
 ghost use mathlib.Core.Path.{_≡_};
 ghost use Rattle.formats.specs.Refusals.{textNumber, told};
 
@@ -22,6 +22,7 @@ pub enum Refusal {
     OtherSlack,
     OtherWire,
     FarPin { line: usize },
+    NotScored,
 }
 
 // A refusal by its number, its text (1 the net, 2 the listing, 0 neither) and its line.
@@ -109,6 +110,11 @@ pub fn tell(refusal: Refusal) -> Told
             number: 13,
             text: 1,
             line,
+        },
+        Refusal::NotScored => Told {
+            number: 14,
+            text: 0,
+            line: 0,
         },
     }
 }

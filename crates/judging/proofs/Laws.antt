@@ -2,3 +2,4 @@
 pub mod Largest
 pub mod SinkSplits
 pub mod SinkArrays
+pub mod Measuring

@@ -1,4 +1,4 @@
-// Judge: a net and a listing in, the listing's measures and the net's Kraft maximum out.
+// Judge: a net and a listing in, the listing's measures and the net's Kraft maximum out; and the measures alone, for calls that do not want the maximum.
 ghost use mathlib.Core.Path.{_≡_};
 ghost use Prim.Native.Nat.{_*_, _<_};
 ghost use lib.ListN.{length};
@@ -8,6 +8,7 @@ ghost use Rattle.formats.specs.Inner.Readers.{HeadHeld, HasPlace};
 ghost use Rattle.formats.specs.Inner.ListingReader.{HasVertices};
 ghost use Rattle.operations.specs.Answers.{judgeOf, judgeAnswer};
 ghost use Rattle.operations.specs.Inner.Acceptance.{HasRoom, judgeNet};
+ghost use Rattle.judging.specs.Inner.Measuring.{answerFor, measuresAnswer};
 use crate::kraft::kraft_maximum;
 use formats::read_net::HeadLines;
 use formats::read_net::NetRead;
@@ -18,6 +19,7 @@ use operations::accept::Acceptance;
 use operations::accept::accept;
 use operations::answers::JudgeAnswer;
 use quantities::point::Point;
+use quantities::time::Time;
 use tree::header::Header;
 use tree::limits::SINK_LIMIT;
 
@@ -35,10 +37,11 @@ fn judge_listing(
     slacks: &mut [i64],
     own: &mut [i64],
     listing: &[u8],
+    wanted: bool,
 ) -> JudgeAnswer
     requires { ⌜ HoldsNet header n (now xs) (now ys) (now required) × HasVertices n (now parents) (now xs) (now ys) ⌝ }
     requires { ⌜ HasRoom n (now first) (now second) (now queue) (now slacks) × (n < length (now own)) ⌝ }
-    ensures { λ r. ⌜ r ≡ judgeAnswer (judgeNet (netOf header n (now (xs .entry)) (now (ys .entry)) (now (required .entry))) (now (listing .entry))) ⌝ }
+    ensures { λ r. ⌜ r ≡ answerFor wanted (judgeNet (netOf header n (now (xs .entry)) (now (ys .entry)) (now (required .entry))) (now (listing .entry))) ⌝ }
 {
     match accept(
         header,
@@ -55,6 +58,13 @@ fn judge_listing(
     ) {
         Acceptance::NotAccepted { refusal } => JudgeAnswer::JudgeRefused { refusal },
         Acceptance::AcceptedListing { slack, wire } => {
+            if !wanted {
+                return JudgeAnswer::Judged {
+                    slack,
+                    wire,
+                    best: Time::of(0),
+                };
+            }
             let best = kraft_maximum(header, n, xs, ys, required, own, slacks, queue);
             JudgeAnswer::Judged { slack, wire, best }
         }
@@ -78,10 +88,11 @@ fn judge_rest(
     slacks: &mut [i64],
     own: &mut [i64],
     listing: &[u8],
+    wanted: bool,
 ) -> JudgeAnswer
     requires head { ⌜ HeadHeld sinkLimit (now net) header root n next ⌝ }
     requires room { ⌜ HasPlace n (now xs) (now ys) (now required) (now own) × HasVertices n (now parents) (now xs) (now ys) × HasRoom n (now first) (now second) (now queue) (now slacks) × (n < length (now own)) ⌝ }
-    ensures { λ r. ⌜ r ≡ judgeAnswer (judgeOf (now (net .entry)) (now (listing .entry))) ⌝ }
+    ensures { λ r. ⌜ r ≡ answerFor wanted (judgeOf (now (net .entry)) (now (listing .entry))) ⌝ }
 {
     if let NetRead::NetRefused { refusal } = read_rest(net, root, n, next, xs, ys, required, own) {
         return JudgeAnswer::JudgeRefused { refusal };
@@ -99,6 +110,7 @@ fn judge_rest(
         slacks,
         own,
         listing,
+        wanted,
     )
 }
 
@@ -110,9 +122,10 @@ fn judge_small(
     n: usize,
     next: Place,
     listing: &[u8],
+    wanted: bool,
 ) -> JudgeAnswer
     requires head { ⌜ HeadHeld 16 (now net) header root n next ⌝ }
-    ensures { λ r. ⌜ r ≡ judgeAnswer (judgeOf (now (net .entry)) (now (listing .entry))) ⌝ }
+    ensures { λ r. ⌜ r ≡ answerFor wanted (judgeOf (now (net .entry)) (now (listing .entry))) ⌝ }
 {
     let mut xs = [0i64; 32];
     let mut ys = [0i64; 32];
@@ -139,6 +152,7 @@ fn judge_small(
         &mut slacks,
         &mut own,
         listing,
+        wanted,
     )
 }
 
@@ -150,9 +164,10 @@ fn judge_medium(
     n: usize,
     next: Place,
     listing: &[u8],
+    wanted: bool,
 ) -> JudgeAnswer
     requires head { ⌜ HeadHeld 64 (now net) header root n next ⌝ }
-    ensures { λ r. ⌜ r ≡ judgeAnswer (judgeOf (now (net .entry)) (now (listing .entry))) ⌝ }
+    ensures { λ r. ⌜ r ≡ answerFor wanted (judgeOf (now (net .entry)) (now (listing .entry))) ⌝ }
 {
     let mut xs = [0i64; 128];
     let mut ys = [0i64; 128];
@@ -179,6 +194,7 @@ fn judge_medium(
         &mut slacks,
         &mut own,
         listing,
+        wanted,
     )
 }
 
@@ -190,9 +206,10 @@ fn judge_large(
     n: usize,
     next: Place,
     listing: &[u8],
+    wanted: bool,
 ) -> JudgeAnswer
     requires head { ⌜ HeadHeld sinkLimit (now net) header root n next ⌝ }
-    ensures { λ r. ⌜ r ≡ judgeAnswer (judgeOf (now (net .entry)) (now (listing .entry))) ⌝ }
+    ensures { λ r. ⌜ r ≡ answerFor wanted (judgeOf (now (net .entry)) (now (listing .entry))) ⌝ }
 {
     let mut xs = [0i64; 2 * SINK_LIMIT as usize];
     let mut ys = [0i64; 2 * SINK_LIMIT as usize];
@@ -219,12 +236,13 @@ fn judge_large(
         &mut slacks,
         &mut own,
         listing,
+        wanted,
     )
 }
 
-// Any two texts get an answer.
-pub fn judge(net: &[u8], listing: &[u8]) -> JudgeAnswer
-    ensures { λ r. ⌜ r ≡ judgeAnswer (judgeOf (now (net .entry)) (now (listing .entry))) ⌝ }
+// Any two texts get an answer, from arrays that fit the number of sinks.
+fn judge_texts(net: &[u8], listing: &[u8], wanted: bool) -> JudgeAnswer
+    ensures { λ r. ⌜ r ≡ answerFor wanted (judgeOf (now (net .entry)) (now (listing .entry))) ⌝ }
 {
     match read_head(net) {
         HeadLines::HeadRefused { refusal } => JudgeAnswer::JudgeRefused { refusal },
@@ -235,12 +253,29 @@ pub fn judge(net: &[u8], listing: &[u8]) -> JudgeAnswer
             next,
         } => {
             if n <= 16 {
-                judge_small(net, header, root, n, next, listing)
+                judge_small(net, header, root, n, next, listing, wanted)
             } else if n <= 64 {
-                judge_medium(net, header, root, n, next, listing)
+                judge_medium(net, header, root, n, next, listing, wanted)
             } else {
-                judge_large(net, header, root, n, next, listing)
+                judge_large(net, header, root, n, next, listing, wanted)
             }
         }
+    }
+}
+
+// The listing's measures and the net's Kraft maximum.
+pub fn judge(net: &[u8], listing: &[u8]) -> JudgeAnswer
+    ensures { λ r. ⌜ r ≡ judgeAnswer (judgeOf (now (net .entry)) (now (listing .entry))) ⌝ }
+{
+    judge_texts(net, listing, true)
+}
+
+// The measures of a listing that judge accepts, or judge's refusal.
+pub fn judge_measures(net: &[u8], listing: &[u8]) -> Acceptance
+    ensures { λ r. ⌜ r ≡ measuresAnswer (judgeOf (now (net .entry)) (now (listing .entry))) ⌝ }
+{
+    match judge_texts(net, listing, false) {
+        JudgeAnswer::Judged { slack, wire, best } => Acceptance::AcceptedListing { slack, wire },
+        JudgeAnswer::JudgeRefused { refusal } => Acceptance::NotAccepted { refusal },
     }
 }

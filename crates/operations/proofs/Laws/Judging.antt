@@ -1,4 +1,4 @@
--- What accept and judge answer, step by step: the line of what is found, the stated slack and wire, the Kraft maximum, the texts. Assumes nothing.
+-- What accept and judge answer, step by step: the line of what is found, the stated slack and wire, the texts. Assumes nothing.
 use Prim.Native.Nat.{ℕ, zero, suc, _+_, _*_, _≤_, _<_}
 use mathlib.Core.Path.{_≡_, refl, sym, ap, _∙_}
 use mathlib.Core.Bool.{true, false, _&&_}
@@ -83,19 +83,6 @@ tree-accepted N M n text G sized e m o q =
 
 pub listing-turned : (N : Net) (n : ℕ) (text : List ℕ) (e : Refusal) → size N ≡ n → readListing n text ≡ refused e → refused e ≡ acceptListing N text
 listing-turned N n text e sized r = sym (ap (λ k. andThen (readListing k text) (acceptTree N)) sized ∙ then-refused (acceptTree N) r)
-
--- ---- the judgement of an accepted listing
-
-pub judged-refused : (N : Net) (text : List ℕ) (e : Refusal) → refused e ≡ acceptListing N text → JudgeRefused e ≡ judgeAnswer (judgeNet N text)
-judged-refused N text e h = sym (ap judgeAnswer (then-refused _ (sym h)))
-
--- what is stated is true, and s is the Kraft maximum
-pub judged-value : (N : Net) (text : List ℕ) (G : Listing) → value G ≡ acceptListing N text → 1 ≤ N .branch → 1 ≤ size N → (s : ℤ) → IsKraftMaximum (N .branch) (ownSlacks N) s
-    → Judged (record { 0 = G .slack }) (record { 0 = G .wire }) (record { 0 = s }) ≡ judgeAnswer (judgeNet N text)
-judged-value N text G h c1 n1 s m =
-    let t = accepted-true N text G (sym h) in
-    let best : s ≡ kraftMaximum (N .branch) (ownSlacks N) = maximum-one (N .branch) (ownSlacks N) s (kraftMaximum (N .branch) (ownSlacks N)) m (maximum-of-net N c1 n1) in
-    (λ i. Judged (record { 0 = t .0 i }) (record { 0 = t .1 i }) (record { 0 = best i })) ∙ sym (ap judgeAnswer (then-value _ (sym h)))
 
 -- ---- the texts
 

@@ -126,6 +126,15 @@ slice-aggregate-put-bytes-12 c = search needs
 put-bytes-requires-12 : tie.Need-put-bytes-requires-12
 put-bytes-requires-12 c κs = search needs
 
+enum-told-6 : tie.Need-enum-told-6
+enum-told-6 c = search needs
+
+slice-aggregate-put-bytes-13 : tie.Need-slice-aggregate-put-bytes-13
+slice-aggregate-put-bytes-13 c = search needs
+
+put-bytes-requires-13 : tie.Need-put-bytes-requires-13
+put-bytes-requires-13 c κs = search needs
+
 same-length : tie.Need-same-length
 same-length c = search needs
 
@@ -204,6 +213,12 @@ same-length-13 c = search needs
 returns-13 : tie.Need-returns-13
 returns-13 c = same-words (c .before .before .before .before .before .before .before .before .before .args .at) _ _ (c .before .before .before .before .before .before .before .before .before .args .refusal) _ (c .before .before .before .before .before .before .refusal8 .given .1) _ (c .before .before .put-bytes12 .ensures)
 
+same-length-14 : tie.Need-same-length-14
+same-length-14 c = search needs
+
+returns-14 : tie.Need-returns-14
+returns-14 c = same-words (c .before .before .before .before .before .before .before .before .args .at) _ _ (c .before .before .before .before .before .before .before .before .args .refusal) _ (c .before .before .before .before .before .enum-told6 .given .1) _ (c .before .before .put-bytes13 .ensures)
+
 pub put-words-spec : {M : Type 1} → statement M
 put-words-spec =
     tie.close
@@ -246,6 +261,9 @@ put-words-spec =
     enum-known-refusal-8
     slice-aggregate-put-bytes-12
     put-bytes-requires-12
+    enum-told-6
+    slice-aggregate-put-bytes-13
+    put-bytes-requires-13
     same-length
     returns
     same-length-2
@@ -271,4 +289,6 @@ put-words-spec =
     same-length-12
     returns-12
     same-length-13
-    returns-13)
+    returns-13
+    same-length-14
+    returns-14)

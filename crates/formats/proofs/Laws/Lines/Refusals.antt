@@ -8,7 +8,7 @@ use Rattle.formats.specs.Refusals.{textNumber, told}
 use Rattle.formats.specs.declared.refusal.Text.{Text}
 use Rattle.formats.specs.declared.refusal.Text.the-variants.{InNet, InListing}
 use Rattle.formats.specs.declared.refusal.Refusal.{Refusal}
-use Rattle.formats.specs.declared.refusal.Refusal.the-variants.{TooLong, NotDue, OutOfRange, BytesFollow, Unreachable, TooShort, OtherCount, SinkParent, WrongChildren, NotReached, OtherSlack, OtherWire, FarPin}
+use Rattle.formats.specs.declared.refusal.Refusal.the-variants.{TooLong, NotDue, OutOfRange, BytesFollow, Unreachable, TooShort, OtherCount, SinkParent, WrongChildren, NotReached, OtherSlack, OtherWire, FarPin, NotScored}
 use Rattle.formats.specs.declared.refusal.Told.{Told}
 
 pub numbered : (e : Refusal) → 1 ≤ told e .number
@@ -25,6 +25,7 @@ numbered (NotReached line) = omega arith
 numbered OtherSlack = omega arith
 numbered OtherWire = omega arith
 numbered (FarPin line) = omega arith
+numbered NotScored = omega arith
 
 -- ---- the refusal from what is told of it
 
@@ -49,7 +50,8 @@ refusals text line =
     ∷ (OtherSlack
     ∷ (OtherWire
     ∷ (FarPin line
-    ∷ []))))))))))))
+    ∷ (NotScored
+    ∷ [])))))))))))))
 
 abbrev refusal-of : Told → Refusal
 refusal-of t = getD (refusals (t .text) (t .line)) (t .number - 1) Unreachable
@@ -72,6 +74,7 @@ told-back (NotReached line) = refl
 told-back OtherSlack = refl
 told-back OtherWire = refl
 told-back (FarPin line) = refl
+told-back NotScored = refl
 
 pub told-one : (e f : Refusal) → told e ≡ told f → e ≡ f
 told-one e f q = sym (told-back e) ∙ ap refusal-of q ∙ told-back f

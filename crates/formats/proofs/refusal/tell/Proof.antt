@@ -56,6 +56,9 @@ enum-told-5 c = search needs
 enum-known-refusal-8 : tie.Need-enum-known-refusal-8
 enum-known-refusal-8 c = search needs
 
+enum-told-6 : tie.Need-enum-told-6
+enum-told-6 c = search needs
+
 returns : tie.Need-returns
 returns c = (λ i. record { number = 1; text = c .text-number .ensures i; line = 0 }) ∙ sym (ap told (c .before .before .refusal .given .1))
 
@@ -95,6 +98,9 @@ returns-12 c = sym (ap told (c .enum-told5 .given .1))
 returns-13 : tie.Need-returns-13
 returns-13 c = sym (ap told (c .before .refusal8 .given .1))
 
+returns-14 : tie.Need-returns-14
+returns-14 c = sym (ap told (c .enum-told6 .given .1))
+
 pub tell-spec : {M : Type 1} → statement M
 tell-spec =
     tie.close
@@ -116,6 +122,7 @@ tell-spec =
     enum-told-4
     enum-told-5
     enum-known-refusal-8
+    enum-told-6
     returns
     returns-2
     returns-3
@@ -128,4 +135,5 @@ tell-spec =
     returns-10
     returns-11
     returns-12
-    returns-13)
+    returns-13
+    returns-14)

@@ -9,7 +9,7 @@ use Rattle.tree.specs.Inner.Arrays.{netOf}
 use Rattle.tree.proofs.Laws.Arrays.PlanArrays.{some-few}
 use Rattle.formats.specs.Inner.ListingReader.{listingHeld}
 use Rattle.formats.proofs.Laws.Held.{kept-net, kept-holds}
-use Rattle.operations.proofs.Laws.Judging.{judged-refused, judged-value}
+use Rattle.judging.proofs.Laws.Measuring.{judged-refused, judged-measures, judged-value}
 use borrow.Author.Needs.{needs}
 use Rattle.judging.proofs.judge.judge_listing.Statement.{statement}
 use Rattle.judging.proofs.judge.judge_listing.Tie as tie
@@ -26,17 +26,8 @@ enum-known-refusal c = search needs
 enum-known-slack : tie.Need-enum-known-slack
 enum-known-slack c = search needs
 
-kraft-maximum-requires : tie.Need-kraft-maximum-requires
-kraft-maximum-requires c κs =
-    let s = c .before .before .before .before .before .before .before .before .before .before .before .before .before .before .before .before .before .before .before .before .before .before .before .before .before .before .before .before .before .before .before .before in
-    let a = s .args in
-    let r = c .before .before .before .before .before .before .before .before .before .before .before .before .before .before .before .before .before .before .before .accept in
-    let xs = r .last .1 .1 .0 in
-    let ys = r .last .1 .1 .1 .0 in
-    let few = some-few (a .header) (a .n) (a .xs .now) (a .ys .now) (a .required .now) (s .pre .0 .0) in
-    let xs-long : 2 * a .n ≤ length xs = omega (arith, r .kept, s .pre .0 .1) in
-    let ys-long : 2 * a .n ≤ length ys = omega (arith, r .kept, s .pre .0 .1) in
-    (kept-holds (a .header) (a .n) (a .xs .now) (a .ys .now) (a .required .now) xs ys (r .ensures .1) (s .pre .0 .0) xs-long ys-long, omega (arith, r .kept, s .pre .1, few))
+of-requires : tie.Need-of-requires
+of-requires c κs = search needs
 
 same-length : tie.Need-same-length
 same-length c = search needs
@@ -61,8 +52,23 @@ same-length-7 c = search needs
 
 returns : tie.Need-returns
 returns c =
-    let s = c .before .before .before .before .before .before .before .before .before .before .before .before .before .before .before .before .before .before .before .before .before .before .before .before .before .before .before in
-    judged-refused (net s) (s .args .listing .now) (c .before .refusal .given .0 .0) (rw (c .before .refusal .given .1) at (c .before .before .before .before .before .before .before .before .before .before .before .before .before .before .accept .ensures .0))
+    let s = c .before .before .before .before .before .before .before .before .before .before .before .before .before .before .before .before .before .before .before .before .before .before .before .before .before .before .before .before .before in
+    let r = c .before .before .before .before .before .before .before .before .before .before .before .before .before .before .before .before .accept in
+    let g = c .before .before .before .slack .given in
+    let t = c .before .if1 .taken in
+    judged-measures (net s) (s .args .listing .now) (listingHeld (g .0 .0) (g .0 .1 .0) (s .args .n) (r .last .1 .1 .1 .1 .1 .0) (r .last .1 .1 .0) (r .last .1 .1 .1 .0)) (rw (g .1) at (r .ensures .0)) (s .args .wanted) t (c .of .result) (c .of .ensures)
+
+kraft-maximum-requires : tie.Need-kraft-maximum-requires
+kraft-maximum-requires c κs =
+    let s = c .before .before .before .before .before .before .before .before .before .before .before .before .before .before .before .before .before .before .before .before .before .before .before .before .before .before .before .before .before .before .before .before .before in
+    let a = s .args in
+    let r = c .before .before .before .before .before .before .before .before .before .before .before .before .before .before .before .before .before .before .before .before .accept in
+    let xs = r .last .1 .1 .0 in
+    let ys = r .last .1 .1 .1 .0 in
+    let few = some-few (a .header) (a .n) (a .xs .now) (a .ys .now) (a .required .now) (s .pre .0 .0) in
+    let xs-long : 2 * a .n ≤ length xs = omega (arith, r .kept, s .pre .0 .1) in
+    let ys-long : 2 * a .n ≤ length ys = omega (arith, r .kept, s .pre .0 .1) in
+    (kept-holds (a .header) (a .n) (a .xs .now) (a .ys .now) (a .required .now) xs ys (r .ensures .1) (s .pre .0 .0) xs-long ys-long, omega (arith, r .kept, s .pre .1, few))
 
 same-length-8 : tie.Need-same-length-8
 same-length-8 c = search needs
@@ -85,20 +91,46 @@ same-length-13 c = search needs
 same-length-14 : tie.Need-same-length-14
 same-length-14 c = search needs
 
+returns-2 : tie.Need-returns-2
+returns-2 c =
+    let s = c .before .before .before .before .before .before .before .before .before .before .before .before .before .before .before .before .before .before .before .before .before .before .before .before .before .before .before in
+    judged-refused (net s) (s .args .listing .now) (s .args .wanted) (c .before .refusal .given .0 .0) (rw (c .before .refusal .given .1) at (c .before .before .before .before .before .before .before .before .before .before .before .before .before .before .accept .ensures .0))
+
 same-length-15 : tie.Need-same-length-15
 same-length-15 c = search needs
 
-returns-2 : tie.Need-returns-2
-returns-2 c =
-    let s = c .before .before .before .before .before .before .before .before .before .before .before .before .before .before .before .before .before .before .before .before .before .before .before .before .before .before .before .before .before .before .before .before .before .before .before .before .before in
+same-length-16 : tie.Need-same-length-16
+same-length-16 c = search needs
+
+same-length-17 : tie.Need-same-length-17
+same-length-17 c = search needs
+
+same-length-18 : tie.Need-same-length-18
+same-length-18 c = search needs
+
+same-length-19 : tie.Need-same-length-19
+same-length-19 c = search needs
+
+same-length-20 : tie.Need-same-length-20
+same-length-20 c = search needs
+
+same-length-21 : tie.Need-same-length-21
+same-length-21 c = search needs
+
+same-length-22 : tie.Need-same-length-22
+same-length-22 c = search needs
+
+returns-3 : tie.Need-returns-3
+returns-3 c =
+    let s = c .before .before .before .before .before .before .before .before .before .before .before .before .before .before .before .before .before .before .before .before .before .before .before .before .before .before .before .before .before .before .before .before .before .before .before .before .before .before in
     let a = s .args in
-    let r = c .before .before .before .before .before .before .before .before .before .before .before .before .before .before .before .before .before .before .before .before .before .before .before .before .accept in
-    let g = c .before .before .before .before .before .before .before .before .before .before .before .slack .given in
+    let r = c .before .before .before .before .before .before .before .before .before .before .before .before .before .before .before .before .before .before .before .before .before .before .before .before .before .accept in
+    let g = c .before .before .before .before .before .before .before .before .before .before .before .before .slack .given in
     let xs = r .last .1 .1 .0 in
     let ys = r .last .1 .1 .1 .0 in
     let held = s .pre .0 .0 in
     let best = c .before .before .before .before .kraft-maximum in
-    judged-value (net s) (a .listing .now) (listingHeld (g .0 .0) (g .0 .1 .0) (a .n) (r .last .1 .1 .1 .1 .1 .0) xs ys) (rw (g .1) at (r .ensures .0)) (held .in-range .branch .0) (held .in-range .sinks .0) (best .result .0)
+    judged-value (net s) (a .listing .now) (listingHeld (g .0 .0) (g .0 .1 .0) (a .n) (r .last .1 .1 .1 .1 .1 .0) xs ys) (rw (g .1) at (r .ensures .0)) (s .args .wanted) (c .before .before .before .before .before .before .before .before .before .before .if1 .left) (held .in-range .branch .0) (held .in-range .sinks .0) (best .result .0)
     (subst (λ K. IsKraftMaximum (K .branch) (ownSlacks K) (best .result .0)) (kept-net (a .header) (a .n) (a .xs .now) (a .ys .now) (a .required .now) xs ys (r .ensures .1)) (best .ensures))
 
 pub judge-listing-spec : {M : Type 1} → statement M
@@ -108,7 +140,7 @@ judge-listing-spec =
     accept-requires
     enum-known-refusal
     enum-known-slack
-    kraft-maximum-requires
+    of-requires
     same-length
     same-length-2
     same-length-3
@@ -117,6 +149,7 @@ judge-listing-spec =
     same-length-6
     same-length-7
     returns
+    kraft-maximum-requires
     same-length-8
     same-length-9
     same-length-10
@@ -124,5 +157,13 @@ judge-listing-spec =
     same-length-12
     same-length-13
     same-length-14
+    returns-2
     same-length-15
-    returns-2)
+    same-length-16
+    same-length-17
+    same-length-18
+    same-length-19
+    same-length-20
+    same-length-21
+    same-length-22
+    returns-3)

@@ -7,9 +7,10 @@ use Rattle.formats.specs.Reading.Nets.{readNet}
 use Rattle.formats.specs.Outcome.{value}
 use Rattle.formats.proofs.Laws.Held.{read-net-holds}
 use Rattle.formats.proofs.Laws.Nets.NetTexts.{net-of, both-refuse}
-use Rattle.operations.specs.Answers.{judgeAnswer}
 use Rattle.operations.proofs.Laws.Answers.{judge-refused}
 use Rattle.operations.proofs.Laws.Judging.{judge-read}
+use Rattle.judging.specs.Inner.Measuring.{answerFor}
+use Rattle.judging.proofs.Laws.Measuring.{refused-for}
 use borrow.Author.Needs.{needs}
 use Rattle.judging.proofs.judge.judge_rest.Statement.{statement}
 use Rattle.judging.proofs.judge.judge_rest.Tie as tie
@@ -45,7 +46,7 @@ same-length-4 c = search needs
 returns : tie.Need-returns
 returns c =
     let s = c .before .before .before .before .before .before .before .before .before .before .before .before .before .before .before .before .before .before in
-    sym (ap judgeAnswer (judge-refused _ _ (both-refuse _ _ (s .pre .0 .0 ∙ (rw (c .before .refusal .given .1) at (c .before .before .before .before .before .before .before .read-rest .ensures (s .args .header))))) _))
+    refused-for _ _ _ (judge-refused _ _ (both-refuse _ _ (s .pre .0 .0 ∙ (rw (c .before .refusal .given .1) at (c .before .before .before .before .before .before .before .read-rest .ensures (s .args .header))))) _)
 
 enum-told : tie.Need-enum-told
 enum-told c = search needs
@@ -90,7 +91,7 @@ same-length-13 c = search needs
 returns-2 : tie.Need-returns-2
 returns-2 c =
     let d = c .before .before .before .before .before .before .before .before .before .before .before .before .before .before .before .before .before .before .before .before .before .before in
-    c .before .before .before .before .before .before .before .before .before .before .before .before .judge-listing .ensures ∙ sym (ap judgeAnswer (judge-read _ (netRead d) (read d) _))
+    c .before .before .before .before .before .before .before .before .before .before .before .before .judge-listing .ensures ∙ sym (ap (answerFor _) (judge-read _ (netRead d) (read d) _))
 
 pub judge-rest-spec : {M : Type 1} → statement M
 judge-rest-spec =
