@@ -6,6 +6,7 @@ pub mod Judging
 pub mod Refusing
 pub mod Needless
 pub mod Demands
+pub mod Judgements
 pub mod TreePlans
 pub mod FarPins
 pub mod TwoFactors

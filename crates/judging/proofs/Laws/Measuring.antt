@@ -18,6 +18,7 @@ use Rattle.formats.proofs.Laws.Lines.Outcomes.{then-value, then-refused}
 use Rattle.operations.specs.Accepting.{acceptListing}
 use Rattle.operations.specs.Answers.{Judgement, judgeAnswer}
 use Rattle.operations.specs.Inner.Acceptance.{judgeNet}
+use Rattle.operations.specs.declared.accept.Acceptance.{Acceptance}
 use Rattle.operations.specs.declared.accept.Acceptance.the-variants.{AcceptedListing, NotAccepted}
 use Rattle.operations.specs.declared.answers.JudgeAnswer.the-variants.{Judged, JudgeRefused}
 use Rattle.operations.proofs.Laws.Accepting.{accepted-true}
@@ -68,3 +69,24 @@ pub refusal-told : (o : Outcome Judgement) (e : Refusal) → JudgeRefused e ≡ 
 unfolding answerFor
 refusal-told (value j) e h = λ i. elim (h i) [ Judged s w b ↦ AcceptedListing s w | JudgeRefused e ↦ NotAccepted e ]
 refusal-told (refused d) e h = λ i. elim (h i) [ Judged s w b ↦ AcceptedListing s w | JudgeRefused e ↦ NotAccepted e ]
+
+-- what was judged, where the measures are told
+pub measured-value : (o : Outcome Judgement) (slack : Time) (wire : Length) → AcceptedListing slack wire ≡ measuresAnswer o → (j : Judgement) × ((o ≡ value j) × (slack .0 ≡ j .slack) × (wire .0 ≡ j .wire))
+measured-value (refused e) slack wire h = absurd (subst isMeasured h tt)
+  where
+    isMeasured : Acceptance → Type 0
+    isMeasured (AcceptedListing s w) = Unit {0}
+    isMeasured (NotAccepted e) = ⊥
+measured-value (value j) slack wire h = (j, (refl, (λ i. slackOf (h i)), (λ i. wireOf (h i))))
+  where
+    slackOf : Acceptance → ℤ
+    slackOf (AcceptedListing s w) = s .0
+    slackOf (NotAccepted e) = pos 0
+
+    wireOf : Acceptance → ℕ
+    wireOf (AcceptedListing s w) = w .0
+    wireOf (NotAccepted e) = 0
+
+pub measured-refused : (o : Outcome Judgement) (e : Refusal) → NotAccepted e ≡ measuresAnswer o → o ≡ refused e
+measured-refused (value j) e h = λ i. elim (sym h i) [ AcceptedListing s w ↦ value j | NotAccepted d ↦ refused d ]
+measured-refused (refused d) e h = λ i. elim (sym h i) [ AcceptedListing s w ↦ refused d | NotAccepted f ↦ refused f ]

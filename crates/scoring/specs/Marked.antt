@@ -1,0 +1,1 @@
+-- Marked scores of 02's request 8, as one statement.
