@@ -4,3 +4,4 @@ pub mod Sums
 pub mod Exact
 pub mod Weighing
 pub mod Scores
+pub mod RoutersScore

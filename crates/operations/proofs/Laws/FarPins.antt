@@ -41,7 +41,7 @@ plan-fault net room e (PlanRefuses.in-net f) h = f
 plan-fault net room e (PlanRefuses.unreachable N F a) h = absurd (omega arith)
 plan-fault net room e (PlanRefuses.too-short N F a l) h = absurd (omega arith)
 
-judge-fault : (net listing : List ℕ) (e : Refusal) → JudgeRefuses net listing e → 13 ≤ told e .number → NetFault net e
+pub judge-fault : (net listing : List ℕ) (e : Refusal) → JudgeRefuses net listing e → 13 ≤ told e .number → NetFault net e
 judge-fault net listing e (JudgeRefuses.in-net f) h = f
 judge-fault net listing e (JudgeRefuses.in-listing N F f) h =
     absurd (omega (arith, listing-low (size N) e (listing-refused (size N) e listing (F .in-range .sinks .0) (listing-answered (size N) listing .refuses e .1 f))))
