@@ -5,3 +5,4 @@ pub mod Exact
 pub mod Weighing
 pub mod Scores
 pub mod RoutersScore
+pub mod Marked

@@ -64,11 +64,11 @@ read-sink : readNet textNearerSink ≡ value nearerSink
 unfolding readNet readWeighted numberThen rowIn begins lineIn field natural digitsValue lead distance span
 read-sink = refl
 
-abbrev judgedTree : Net → Listing → Outcome Judgement
+abbrev pub judgedTree : Net → Listing → Outcome Judgement
 judgedTree N G = andThen (acceptTree N G) λ G. value (judgement (record { net = N; listing = G }))
 
 -- a net that is read as N and a listing that is read as G, judged
-judged-over : (net : List ℕ) (N : Net) → readNet net ≡ value N → (s : List ℕ) (G : Listing) → readListing (size N) s ≡ value G → judgeOf net s ≡ judgedTree N G
+pub judged-over : (net : List ℕ) (N : Net) → readNet net ≡ value N → (s : List ℕ) (G : Listing) → readListing (size N) s ≡ value G → judgeOf net s ≡ judgedTree N G
 judged-over net N r s G e = judge-read net N r s ∙ ap (λ o. andThen (andThen o (acceptTree N)) (λ G. value (judgement (record { net = N; listing = G })))) e
 
 judged : (s : List ℕ) (G : Listing) → readListing 3 s ≡ value G → judgeOf textA s ≡ judgedTree netA G
