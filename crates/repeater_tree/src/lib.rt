@@ -1,7 +1,8 @@
-// The library for callers in C and Rust: the plans and judge on lent bytes, each figure through a reference of its own.
+// The library for callers in C and Rust: the plans, judge and the score on lent bytes, each figure through a reference of its own.
 ghost use mathlib.Core.Path.{_≡_};
 ghost use lib.ListN.{length};
 ghost use Rattle.operations.specs.Answers.{planOf, planOutput, planAnswer, planFigures, judgeOf, judgeAnswer, judgeFigures};
+ghost use Rattle.scoring.specs.Scores.{scoreOf, scoreAnswer, scoreFigures};
 ghost use Rattle.short_tree.specs.SecondPlan.{shortOf, shortOutput};
 ghost use Rattle.weighted_tree.specs.ThirdPlan.{weightedOf, weightedOutput};
 use first_plan::plan::plan;
@@ -9,6 +10,7 @@ use formats::refusal::tell;
 use judging::judge::judge;
 use operations::answers::JudgeAnswer;
 use operations::answers::PlanAnswer;
+use scoring::score::ScoreAnswer;
 use short_tree::plan_short::plan_short;
 use weighted_tree::plan_weighted::plan_weighted;
 
@@ -135,6 +137,37 @@ pub extern "C" fn repeater_tree_judge(
             *slack = 0;
             *wire = 0;
             *best = 0;
+            told.number
+        }
+    }
+}
+
+// Scores a listing by the router's weights. The number of the refusal is returned, 0 where nothing is refused.
+#[no_mangle]
+pub extern "C" fn repeater_tree_score(
+    net: &[u8],
+    listing: &[u8],
+    alpha_1024ths: i64,
+    beta_1024ths: i64,
+    cap: i64,
+    text: &mut u8,
+    line: &mut usize,
+    score: &mut f64,
+) -> u8
+    ensures { λ r. ⌜ (record { number = r; text = now (text .exit); line = now (line .exit); score = now (score .exit) }) ≡ scoreFigures (scoreAnswer (scoreOf (now (net .entry)) (now (listing .entry)) «alpha_1024ths» «beta_1024ths» cap)) ⌝ }
+{
+    match scoring::score::score(net, listing, alpha_1024ths, beta_1024ths, cap) {
+        ScoreAnswer::Scored { score: given } => {
+            *text = 0;
+            *line = 0;
+            *score = given;
+            0
+        }
+        ScoreAnswer::ScoreRefused { refusal } => {
+            let told = tell(refusal);
+            *text = told.text;
+            *line = told.line;
+            *score = 0.0;
             told.number
         }
     }

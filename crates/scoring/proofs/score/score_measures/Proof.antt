@@ -67,8 +67,8 @@ returns-2 c =
     let a = s .args in
     let r = ranges (c .before .before) in
     let made : c .score .result ≡ of1024ths (score1024ths (a .alpha-1024ths) (a .beta-1024ths) (minℤ (a .slack .0) (a .cap)) (a .wire .0)) =
-        c .score .ensures _ _ (c .before .of2 .ensures)
-        ∙ (λ i. of1024ths (score1024ths (toZ-ofZ (s .fits .alpha-1024ths) i) (toZ-ofZ (s .fits .beta-1024ths) i) (least-is (c .before .before .before .before) i) (a .wire .0))) in
+    c .score .ensures _ _ (c .before .of2 .ensures)
+    ∙ (λ i. of1024ths (score1024ths (toZ-ofZ (s .fits .alpha-1024ths) i) (toZ-ofZ (s .fits .beta-1024ths) i) (least-is (c .before .before .before .before) i) (a .wire .0))) in
     ap Scored made ∙ sym (ap scoreAnswer (scored-yes (a .alpha-1024ths) (a .beta-1024ths) (a .cap) (minℤ (a .slack .0) (a .cap)) (a .wire .0) (sym (tested (c .before .before .before)) ∙ not-false _ (c .before .before .if1 .left))))
 
 pub score-measures-spec : {M : Type 1} → statement M
