@@ -1,8 +1,8 @@
-/* Plans a net of three sinks, judges the plan, does the same where a nanometre
- * upward costs more than one across, for a short tree and for one by weights,
- * which do not look at need; then asks for too much, hands over one wire factor
- * for two, a pin too far from the root, a sink without its weight, and texts and
- * an output of no bytes.
+/* Plans a net of three sinks, judges and scores the plan, does the same where a
+ * nanometre upward costs more than one across, for a short tree and for one by
+ * weights, which do not look at need; then asks for too much, hands over one wire
+ * factor for two, a pin too far from the root, a sink without its weight, an alpha
+ * above 1, and texts and an output of no bytes.
  *
  * Build and run, from the repository's root:
  *   cc -o target/example callers/c/example.c target/staticlib/librepeater_tree.a \
@@ -19,6 +19,10 @@
     "sink=10,0,100,5\nsink=4,6,60,1\nsink=" last "\n"
 #define NET(need) NET_WITH("2,2", need, "10,10,70,1")
 
+/* What the scores go by: alpha is 1/2, beta 1/4, and slack beyond 20 as does not
+ * count. */
+enum { ALPHA_1024THS = 512, BETA_1024THS = 256, CAP = 20 };
+
 /* The calls that plan have one shape. */
 typedef uint8_t planner(const uint8_t *, size_t, uint8_t *, size_t,
                         uint8_t *, size_t *, int64_t *, uint64_t *, size_t *);
@@ -30,11 +34,12 @@ struct due {
     int64_t slack;
     uint64_t wire;
     int64_t best;
+    double score;
     const char *listing;
 };
 
 static const struct due one_metal = {
-    repeater_tree_plan, NET("0"), 0, 32, 0,
+    repeater_tree_plan, NET("0"), 0, 32, 0, -8.0,
     "slack=0\nwire=32\nsinks=3\nleaf=1,5\nleaf=2,5\nleaf=3,4\n"
     "node=4,0,4,0\nnode=5,4,4,0\n"};
 
@@ -42,21 +47,21 @@ static const struct due one_metal = {
 static const struct due two_metals = {
     repeater_tree_plan,
     "root=0,0\nbranch=20\nwire=2,6\nneed=0\nsinks=3\n"
-    "sink=10,0,100,1\nsink=4,6,110,1\nsink=10,10,150,1\n", 30, 26, 30,
+    "sink=10,0,100,1\nsink=4,6,110,1\nsink=10,10,150,1\n", 30, 26, 30, 3.5,
     "slack=30\nwire=26\nsinks=3\nleaf=1,5\nleaf=2,4\nleaf=3,5\n"
     "node=4,0,4,0\nnode=5,4,10,0\n"};
 
 /* Less wire than the first plan of these pins has, and less slack; a need that
  * no tree has is not looked at. */
 static const struct due short_tree = {
-    repeater_tree_plan_short, NET("1"), -10, 26, 0,
+    repeater_tree_plan_short, NET("1"), -10, 26, 0, -11.5,
     "slack=-10\nwire=26\nsinks=3\nleaf=1,5\nleaf=2,4\nleaf=3,5\n"
     "node=4,0,4,0\nnode=5,4,10,0\n"};
 
 /* The pin that switches most has one branch point above it, the others two; a
  * need that no tree has is not looked at here either. */
 static const struct due weighted_tree = {
-    repeater_tree_plan_weighted, NET("1"), -10, 26, 0,
+    repeater_tree_plan_weighted, NET("1"), -10, 26, 0, -11.5,
     "slack=-10\nwire=26\nsinks=3\nleaf=1,5\nleaf=2,4\nleaf=3,4\n"
     "node=4,5,4,6\nnode=5,0,4,0\n"};
 
@@ -103,6 +108,30 @@ static int judge(const struct due *due, const uint8_t *listing, size_t length) {
     return 0;
 }
 
+/* Ten digits behind the point show every score in full. */
+static int score(const struct due *due, const uint8_t *listing, size_t length) {
+    uint8_t text;
+    size_t line;
+    double score;
+    uint8_t number = repeater_tree_score(bytes_of(due->net), strlen(due->net),
+                                         listing, length,
+                                         ALPHA_1024THS, BETA_1024THS, CAP,
+                                         &text, &line, &score);
+    printf("score: number=%u score=%.10f\n", (unsigned)number, score);
+    if (number != REPEATER_TREE_DONE || text != 0 || line != 0)
+        return unexpected("the score is refused");
+    if (score != due->score)
+        return unexpected("the score");
+    return 0;
+}
+
+static int all_calls(const struct due *due, uint8_t *out, size_t length) {
+    size_t bytes = 0;
+    return plan(due, out, length, &bytes)
+        || judge(due, out, bytes)
+        || score(due, out, bytes);
+}
+
 struct refusal {
     uint8_t number, text;
     size_t line;
@@ -142,6 +171,20 @@ static int judge_refused(const char *what, const char *net, size_t net_length,
     return refused(what, told, expected);
 }
 
+static int score_refused(const char *what, const char *net, size_t net_length,
+                         const char *listing, size_t length, int64_t alpha_1024ths,
+                         struct refusal expected) {
+    struct refusal told;
+    double score;
+    const double plus_zero = 0;
+    told.number = repeater_tree_score(bytes_of(net), net_length, bytes_of(listing), length,
+                                      alpha_1024ths, BETA_1024THS, CAP,
+                                      &told.text, &told.line, &score);
+    if (memcmp(&score, &plus_zero, sizeof score) != 0)
+        return unexpected("a score beside a refusal");
+    return refused(what, told, expected);
+}
+
 /* Where a length is 0 the pointer may be NULL. */
 static int nothing_lent(void) {
     const struct refusal no_net = {REPEATER_TREE_MALFORMED, 1, 1};
@@ -155,7 +198,9 @@ static int nothing_lent(void) {
         || plan_refused(repeater_tree_plan_weighted, "no net, no output", NULL, 0, NULL, 0, no_net)
         || plan_refused(repeater_tree_plan_weighted, "no output", net, strlen(net), NULL, 0, no_output)
         || judge_refused("no net, no listing", NULL, 0, NULL, 0, no_net)
-        || judge_refused("no listing", net, strlen(net), NULL, 0, no_listing);
+        || judge_refused("no listing", net, strlen(net), NULL, 0, no_listing)
+        || score_refused("no net, no listing", NULL, 0, NULL, 0, ALPHA_1024THS, no_net)
+        || score_refused("no listing", net, strlen(net), NULL, 0, ALPHA_1024THS, no_listing);
 }
 
 int main(void) {
@@ -164,23 +209,22 @@ int main(void) {
     const struct refusal one_factor = {REPEATER_TREE_MALFORMED, 1, 3};
     const struct refusal far_pin = {REPEATER_TREE_FAR_PIN, 1, 8};
     const struct refusal no_weight = {REPEATER_TREE_MALFORMED, 1, 8};
+    const struct refusal not_scored = {REPEATER_TREE_NOT_SCORED, 0, 0};
     const char *too_much = NET("1"), *one = NET_WITH("2", "0", "10,10,70,1");
     const char *far = NET_WITH("2,2", "0", "10,40000000,70,1");
     const char *bare = NET_WITH("2,2", "0", "10,10,70");
-    size_t bytes = 0;
+    const char *listing = one_metal.listing;
     printf("version %d.%d.%d\n", REPEATER_TREE_VERSION_MAJOR,
            REPEATER_TREE_VERSION_MINOR, REPEATER_TREE_VERSION_PATCH);
-    return plan(&one_metal, out, sizeof out, &bytes)
-        || judge(&one_metal, out, bytes)
-        || plan(&two_metals, out, sizeof out, &bytes)
-        || judge(&two_metals, out, bytes)
-        || plan(&short_tree, out, sizeof out, &bytes)
-        || judge(&short_tree, out, bytes)
-        || plan(&weighted_tree, out, sizeof out, &bytes)
-        || judge(&weighted_tree, out, bytes)
+    return all_calls(&one_metal, out, sizeof out)
+        || all_calls(&two_metals, out, sizeof out)
+        || all_calls(&short_tree, out, sizeof out)
+        || all_calls(&weighted_tree, out, sizeof out)
         || plan_refused(repeater_tree_plan, "need=1", too_much, strlen(too_much), out, sizeof out, unreachable)
         || plan_refused(repeater_tree_plan, "wire=2", one, strlen(one), out, sizeof out, one_factor)
         || plan_refused(repeater_tree_plan_short, "a far pin", far, strlen(far), out, sizeof out, far_pin)
         || plan_refused(repeater_tree_plan_weighted, "no weight", bare, strlen(bare), out, sizeof out, no_weight)
+        || score_refused("alpha above 1", one_metal.net, strlen(one_metal.net), listing, strlen(listing),
+                         REPEATER_TREE_PARTS + 1, not_scored)
         || nothing_lent();
 }

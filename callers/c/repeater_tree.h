@@ -1,4 +1,4 @@
-/* The repeater tree planner: four calls on text.
+/* The repeater tree planner: five calls on text.
  *
  * docs/FORMAT.md has the two texts, their ranges and the rules of the three
  * plans.
@@ -24,8 +24,14 @@
 #ifndef REPEATER_TREE_H
 #define REPEATER_TREE_H
 
+#include <float.h>
 #include <stddef.h>
 #include <stdint.h>
+
+/* A score is a double, and exact as an IEEE 754 binary64. */
+#if FLT_RADIX != 2 || DBL_MANT_DIG != 53 || DBL_MAX_EXP != 1024
+#error "repeater_tree.h: double is not binary64"
+#endif
 
 #ifdef __cplusplus
 extern "C" {
@@ -34,7 +40,7 @@ extern "C" {
 /* While MAJOR is 0, another MINOR may change the texts, the answers or the
  * calls; another PATCH changes none of them. */
 #define REPEATER_TREE_VERSION_MAJOR 0
-#define REPEATER_TREE_VERSION_MINOR 8
+#define REPEATER_TREE_VERSION_MINOR 9
 #define REPEATER_TREE_VERSION_PATCH 0
 
 /* The longest texts that are read, in bytes. No listing that a plan writes
@@ -47,6 +53,15 @@ extern "C" {
 
 /* The largest weight of a sink; the least is 1. */
 #define REPEATER_TREE_WEIGHT_LIMIT 1000
+
+/* A score's alpha and beta are given in parts, so many to 1; each is 0 to 1. */
+#define REPEATER_TREE_PARTS 1024
+
+/* The largest cap of a score, in as; the least is 0. */
+#define REPEATER_TREE_CAP_LIMIT 1000000000000
+
+/* The least worst slack of a tree that is scored, in as. */
+#define REPEATER_TREE_LOWEST (-1000000000000)
 
 /* No call takes more of its thread's stack, in bytes. The caller's own frames,
  * and what the system keeps on a thread's stack, come on top. */
@@ -73,26 +88,32 @@ enum {
     /* plan, plan_short, plan_weighted: the output is shorter than the listing.
      * Text 0, line 0. */
     REPEATER_TREE_SHORT_OUTPUT = 6,
-    /* judge: the listing's number of sinks is not the net's. Text 2, line 3. */
+    /* judge, score: the listing's number of sinks is not the net's.
+     * Text 2, line 3. */
     REPEATER_TREE_OTHER_SINKS = 7,
-    /* judge: the parent named on this listing line is a sink. */
+    /* judge, score: the parent named on this listing line is a sink. */
     REPEATER_TREE_SINK_PARENT = 8,
-    /* judge: the root has not exactly one child (line 0), or the branch point
-     * on this line has not exactly two; the lowest such branch point. */
+    /* judge, score: the root has not exactly one child (line 0), or the branch
+     * point on this line has not exactly two; the lowest such branch point. */
     REPEATER_TREE_CHILDREN = 9,
-    /* judge: the vertex on this line is not reached from the root; the lowest
-     * such vertex. Some branch points form a ring. */
+    /* judge, score: the vertex on this line is not reached from the root; the
+     * lowest such vertex. Some branch points form a ring. */
     REPEATER_TREE_UNREACHED = 10,
-    /* judge: the slack that the listing states is not its worst slack.
+    /* judge, score: the slack that the listing states is not its worst slack.
      * Text 2, line 1. */
     REPEATER_TREE_WRONG_SLACK = 11,
-    /* judge: the wire that the listing states is not its wire.
+    /* judge, score: the wire that the listing states is not its wire.
      * Text 2, line 2. */
     REPEATER_TREE_WRONG_WIRE = 12,
     /* The sink on this line of the net stands farther from the root than
      * REPEATER_TREE_PIN_LIMIT: the net belongs to the global planner. The
      * lowest such line; on one line 2 and 3 go before. Text 1. */
-    REPEATER_TREE_FAR_PIN = 13
+    REPEATER_TREE_FAR_PIN = 13,
+    /* score: alpha_1024ths or beta_1024ths is not 0 to REPEATER_TREE_PARTS, cap
+     * is not 0 to REPEATER_TREE_CAP_LIMIT, or the lesser of worst slack and cap
+     * is below REPEATER_TREE_LOWEST, also where alpha is 0. The other refusals
+     * go before. Text 0, line 0. */
+    REPEATER_TREE_NOT_SCORED = 14
 };
 
 /* Plans a tree of the largest possible worst slack for the net and writes its
@@ -190,6 +211,37 @@ uint8_t repeater_tree_judge(const uint8_t *net, size_t net_length,
                             uint8_t *text, size_t *line,
                             int64_t *slack, uint64_t *wire, int64_t *best);
 
+/* Scores the tree of a listing over its net, as the router ranks trees:
+ *
+ *   alpha * min(worst slack, cap) - beta * wire
+ *
+ * with slack in as and wire in nm; the larger the better. The net and the
+ * listing are read, and refused, as judge does it; best is not worked out.
+ *
+ * The score is exact: 1,024 times it is the whole number
+ * alpha_1024ths * min(worst slack, cap) - beta_1024ths * wire, and nothing is
+ * rounded. So two scores compare by <, == and > as those whole numbers do. A
+ * score of zero is plus zero, and none is an infinity or a NaN.
+ *
+ *   net, net_length           the net text
+ *   listing, listing_length   the listing text
+ *   alpha_1024ths             alpha * 1,024, 0 to 1,024
+ *   beta_1024ths              beta * 1,024, 0 to 1,024
+ *   cap                       slack beyond it does not count, in as,
+ *                             0 to 1,000,000,000,000
+ *   text                      the refusal's text, 0 to 2
+ *   line                      the refusal's line, 0 to 1,027
+ *   score                     the score, in steps of 1/1,024,
+ *                             -1,409,200,000,000 to 1,000,000,000,000
+ *
+ * alpha_1024ths, beta_1024ths and cap may have any value: another than these is
+ * refused by 14. Every figure is written by every call. At a refusal (1 to 4,
+ * 7 to 14) score is plus zero. */
+uint8_t repeater_tree_score(const uint8_t *net, size_t net_length,
+                            const uint8_t *listing, size_t listing_length,
+                            int64_t alpha_1024ths, int64_t beta_1024ths, int64_t cap,
+                            uint8_t *text, size_t *line, double *score);
+
 /* The archive's functions ask for an address that is not null also where a
  * length is 0. These lend one, and the names above mean them from here on,
  * so that NULL with 0 is fine in every call and through every pointer. */
@@ -240,6 +292,18 @@ static inline uint8_t repeater_tree_judge_lent(
                                text, line, slack, wire, best);
 }
 
+static inline uint8_t repeater_tree_score_lent(
+    const uint8_t *net, size_t net_length,
+    const uint8_t *listing, size_t listing_length,
+    int64_t alpha_1024ths, int64_t beta_1024ths, int64_t cap,
+    uint8_t *text, size_t *line, double *score) {
+    const uint8_t no_text = 0;
+    return repeater_tree_score(net_length == 0 ? &no_text : net, net_length,
+                               listing_length == 0 ? &no_text : listing, listing_length,
+                               alpha_1024ths, beta_1024ths, cap,
+                               text, line, score);
+}
+
 /* A refusal in plain words, as the programs tell it on standard error. */
 static inline const char *repeater_tree_words(uint8_t number, size_t line) {
     switch (number) {
@@ -270,6 +334,8 @@ static inline const char *repeater_tree_words(uint8_t number, size_t line) {
         return "the stated wire is not the tree's wire";
     case REPEATER_TREE_FAR_PIN:
         return "the sink is too far from the root";
+    case REPEATER_TREE_NOT_SCORED:
+        return "alpha, beta or the cap is out of range, or the slack too low";
     default:
         return "unknown refusal";
     }
@@ -279,6 +345,7 @@ static inline const char *repeater_tree_words(uint8_t number, size_t line) {
 #define repeater_tree_plan_short repeater_tree_plan_short_lent
 #define repeater_tree_plan_weighted repeater_tree_plan_weighted_lent
 #define repeater_tree_judge repeater_tree_judge_lent
+#define repeater_tree_score repeater_tree_score_lent
 
 #ifdef __cplusplus
 }

@@ -1,7 +1,7 @@
-/* Measures how much stack each plan and a judgement take: each call runs in a
- * thread on a stack of our own, filled with one byte beforehand, and the lowest
- * byte that changed tells how far down the call went. Fails where a call takes
- * more than REPEATER_TREE_STACK.
+/* Measures how much stack each plan, a judgement and a score take: each call runs
+ * in a thread on a stack of our own, filled with one byte beforehand, and the
+ * lowest byte that changed tells how far down the call went. Fails where a call
+ * takes more than REPEATER_TREE_STACK.
  *
  * Build and run, from the repository's root:
  *   cc -std=c99 -pthread -o target/stack callers/c/stack.c \
@@ -59,6 +59,18 @@ static void *judge(void *given) {
     return NULL;
 }
 
+static void *score(void *given) {
+    struct job *job = given;
+    uint8_t text;
+    size_t line;
+    double score;
+    job->from = &text;
+    job->number = repeater_tree_score(net, net_length, listing, listing_length,
+                                      REPEATER_TREE_PARTS, REPEATER_TREE_PARTS,
+                                      REPEATER_TREE_CAP_LIMIT, &text, &line, &score);
+    return NULL;
+}
+
 static void demand(int holds, const char *what) {
     if (!holds) {
         fprintf(stderr, "stack: %s\n", what);
@@ -96,20 +108,21 @@ static void make_net(int sinks) {
 int main(void) {
     static const int sizes[] = {1, 16, 17, 64, 65, 512};
     size_t most = 0;
-    puts("bytes of stack:\nsinks  plan  plan, no byte to spare  judge  short tree  no byte to spare"
-         "  by weights  no byte to spare");
+    puts("bytes of stack:\nsinks  plan  plan, no byte to spare  judge  score  short tree"
+         "  no byte to spare  by weights  no byte to spare");
     for (size_t i = 0; i < sizeof sizes / sizeof *sizes; i++) {
-        size_t used[7];
+        size_t used[8];
         make_net(sizes[i]);
         used[0] = used_by(plan, repeater_tree_plan, sizeof listing);
         used[1] = used_by(plan, repeater_tree_plan, listing_length);
         used[2] = used_by(judge, NULL, 0);
-        used[3] = used_by(plan, repeater_tree_plan_short, sizeof listing);
-        used[4] = used_by(plan, repeater_tree_plan_short, listing_length);
-        used[5] = used_by(plan, repeater_tree_plan_weighted, sizeof listing);
-        used[6] = used_by(plan, repeater_tree_plan_weighted, listing_length);
-        printf("%5d %6zu %22zu %6zu %11zu %16zu %11zu %16zu\n", sizes[i],
-               used[0], used[1], used[2], used[3], used[4], used[5], used[6]);
+        used[3] = used_by(score, NULL, 0);
+        used[4] = used_by(plan, repeater_tree_plan_short, sizeof listing);
+        used[5] = used_by(plan, repeater_tree_plan_short, listing_length);
+        used[6] = used_by(plan, repeater_tree_plan_weighted, sizeof listing);
+        used[7] = used_by(plan, repeater_tree_plan_weighted, listing_length);
+        printf("%5d %6zu %22zu %6zu %6zu %11zu %16zu %11zu %16zu\n", sizes[i],
+               used[0], used[1], used[2], used[3], used[4], used[5], used[6], used[7]);
         for (size_t j = 0; j < sizeof used / sizeof *used; j++)
             if (used[j] > most) most = used[j];
     }
