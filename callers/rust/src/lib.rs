@@ -38,6 +38,12 @@ pub const LISTING_LENGTH: usize = 32_768;
 pub const PIN_LIMIT: u64 = 40_000_000;
 /// The largest weight of a sink; the least is 1.
 pub const WEIGHT_LIMIT: u64 = 1_000;
+/// A score's alpha and beta are given in parts, so many to 1; each is 0 to 1.
+pub const PARTS: i64 = 1_024;
+/// The largest cap of a score, in attoseconds; the least is 0.
+pub const CAP_LIMIT: i64 = 1_000_000_000_000;
+/// The least worst slack of a tree that is scored, in attoseconds.
+pub const LOWEST: i64 = -1_000_000_000_000;
 /// No call takes more of its thread's stack, in bytes. The caller's own frames,
 /// and what the system keeps on a thread's stack, come on top.
 pub const STACK: usize = 81_920;
@@ -150,4 +156,40 @@ pub fn judge(net: &[u8], listing: &[u8]) -> Result<Measures, Refusal> {
         wire: f.wire,
         best: f.best,
     })
+}
+
+/// Scores the listed tree over its net, as the router ranks trees: alpha ×
+/// min(worst slack, cap) - beta × wire, with slack in attoseconds and wire in
+/// nanometres; the larger the better. Alpha and beta are given in 1,024ths, 0 to
+/// [`PARTS`], and the cap is 0 to [`CAP_LIMIT`]. They may have any value: another
+/// than these is refused by number 14, and so is a tree whose worst slack is
+/// below [`LOWEST`], also where alpha is 0. [`judge`]'s refusals go before.
+///
+/// The score is -1,409,200,000,000 to 1,000,000,000,000 and exact: 1,024 times it
+/// is the whole number `alpha_1024ths` × min(worst slack, cap) -
+/// `beta_1024ths` × wire. So scores compare as those numbers do. A score of zero
+/// is plus zero, and none is an infinity or a NaN.
+///
+/// ```
+/// // 6 attoseconds to spare, of which 5 count, and 7 nanometres of wire.
+/// let net = b"root=0,0\nbranch=20\nwire=2,5\nneed=0\nsinks=1\nsink=3,4,32,1\n";
+/// let listing = b"slack=6\nwire=7\nsinks=1\nleaf=1,0\n";
+/// // Alpha is 1/2 and beta 1/1,024.
+/// let score = repeater_tree::score(net, listing, 512, 1, 5).unwrap();
+/// assert_eq!(score, 2.5 - 7.0 / 1024.0);
+///
+/// let refusal = repeater_tree::score(net, listing, 1025, 1, 5).unwrap_err();
+/// assert_eq!((refusal.number, refusal.text, refusal.line), (14, 0, 0));
+/// ```
+pub fn score(
+    net: &[u8],
+    listing: &[u8],
+    alpha_1024ths: i64,
+    beta_1024ths: i64,
+    cap: i64,
+) -> Result<f64, Refusal> {
+    let mut f = ScoreFigures::default();
+    score_figures(net, listing, alpha_1024ths, beta_1024ths, cap, &mut f);
+    Refusal::check(f.number, f.text, f.line)?;
+    Ok(f.score)
 }

@@ -2,10 +2,10 @@
 
 use std::fmt;
 
-/// Why nothing was planned or measured.
+/// Why nothing was planned, measured or scored.
 #[derive(Clone, Copy, Debug, PartialEq, Eq)]
 pub struct Refusal {
-    /// 1 to 13.
+    /// 1 to 14.
     pub number: u8,
     /// 1 the net, 2 the listing, 0 neither.
     pub text: u8,
@@ -37,18 +37,25 @@ impl Refusal {
             (11, _) => "the stated slack is not the tree's worst slack",
             (12, _) => "the stated wire is not the tree's wire",
             (13, _) => "the sink is too far from the root",
+            (14, _) => "alpha, beta or the cap is out of range, or the slack too low",
             _ => "unknown refusal",
+        }
+    }
+
+    /// What is refused: a text, else the output or the score.
+    fn subject(&self) -> &'static str {
+        match self.text {
+            1 => "net",
+            2 => "listing",
+            _ if self.number == 14 => "score",
+            _ => "output",
         }
     }
 }
 
 impl fmt::Display for Refusal {
     fn fmt(&self, f: &mut fmt::Formatter<'_>) -> fmt::Result {
-        match self.text {
-            1 => f.write_str("net")?,
-            2 => f.write_str("listing")?,
-            _ => f.write_str("output")?,
-        }
+        f.write_str(self.subject())?;
         if self.line > 0 {
             write!(f, " line {}", self.line)?;
         }
