@@ -1,7 +1,9 @@
-//! Each end of the ranges of plan's and judge's figures is reached, and the most
-//! wire of a plan by weights.
+//! Each end of the ranges of plan's, judge's and score's figures is reached, and
+//! the most wire of a plan by weights.
 
-use repeater_tree::{judge, plan, plan_weighted, Measures, LISTING_LENGTH};
+use repeater_tree::{
+    judge, plan, plan_weighted, score, Measures, CAP_LIMIT, LISTING_LENGTH, LOWEST, PARTS,
+};
 
 const CORNER: i64 = -100_000_000;
 const OPPOSITE: i64 = 100_000_000;
@@ -76,17 +78,35 @@ fn the_lowest_slack() {
     );
 }
 
+/// What the longest tree's sinks lose on their ways.
+const LOST: i64 = 10_000 * 400_000_000 * 10 + 9 * 1_000_000_000;
+
 /// In a tree of nine full levels all sinks end at even numbers of edges, so
 /// that all 1,023 edges run from corner to corner.
-#[test]
-fn the_longest_wire() {
-    let net = net(512, CORNER, 0);
+fn longest(slack: i64) -> Vec<u8> {
     let mut parents: Vec<usize> = (0..512).map(|k| 768 + k / 2).collect();
     parents.push(0);
     parents.extend((2..512).map(|k| 512 + k / 2));
-    let slack = -10_000 * 400_000_000 * 10 - 9 * 1_000_000_000;
-    let measures = judge(&net, &listing(slack, 409_200_000_000, &parents)).unwrap();
+    listing(slack, 409_200_000_000, &parents)
+}
+
+#[test]
+fn the_longest_wire() {
+    let measures = judge(&net(512, CORNER, 0), &longest(-LOST)).unwrap();
     assert_eq!(measures.wire, 409_200_000_000);
+}
+
+/// The lowest slack that is scored, with the longest wire; and the largest cap,
+/// with none.
+#[test]
+fn the_ends_of_scores() {
+    let late = net(512, CORNER, LOST + LOWEST);
+    let lowest = score(&late, &longest(LOWEST), PARTS, PARTS, 0);
+    assert_eq!(lowest, Ok(-1_409_200_000_000.0));
+    let early = net(1, CORNER, 1_000_000_000_000_000);
+    let straight = b"slack=1000000000000000\nwire=0\nsinks=1\nleaf=1,0\n";
+    let highest = score(&early, straight, PARTS, PARTS, CAP_LIMIT);
+    assert_eq!(highest, Ok(1_000_000_000_000.0));
 }
 
 /// Pins on both sides of the root by turns, as far off as they may stand: sinks

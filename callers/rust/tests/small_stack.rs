@@ -1,7 +1,8 @@
 //! The calls in a thread whose stack has little more than they take.
 
 use repeater_tree::{
-    judge, plan, plan_short, plan_weighted, Plan, Refusal, LISTING_LENGTH, STACK, WEIGHT_LIMIT,
+    judge, plan, plan_short, plan_weighted, score, Plan, Refusal, CAP_LIMIT, LISTING_LENGTH, PARTS,
+    STACK, WEIGHT_LIMIT,
 };
 use std::thread;
 
@@ -25,7 +26,7 @@ type Planner = fn(&[u8], &mut [u8]) -> Result<Plan, Refusal>;
 
 /// The output and the net lie on the heap: they are the caller's, and only what
 /// the calls themselves take is tried.
-fn plan_and_judge(planner: Planner, net: &[u8]) -> (Plan, i64) {
+fn plan_judge_and_score(planner: Planner, net: &[u8]) -> (Plan, i64) {
     let mut out = vec![0; LISTING_LENGTH];
     let long = planner(net, &mut out).unwrap();
     let listing = out[..long.bytes].to_vec();
@@ -33,15 +34,17 @@ fn plan_and_judge(planner: Planner, net: &[u8]) -> (Plan, i64) {
     let measures = judge(net, &listing).unwrap();
     assert_eq!((exact, &out[..exact.bytes]), (long, &listing[..]));
     assert_eq!((measures.slack, measures.wire), (long.slack, long.wire));
+    let score = score(net, &listing, PARTS, PARTS, CAP_LIMIT).unwrap();
+    assert_eq!(score, (long.slack - long.wire as i64) as f64);
     (long, measures.best)
 }
 
 fn every_call(sinks: usize) {
     let net = net(sinks);
-    let (first, best) = plan_and_judge(plan, &net);
+    let (first, best) = plan_judge_and_score(plan, &net);
     assert_eq!(first.slack, best);
     for planner in [plan_short, plan_weighted] {
-        assert_eq!(plan_and_judge(planner, &net).1, best);
+        assert_eq!(plan_judge_and_score(planner, &net).1, best);
     }
 }
 
