@@ -17,8 +17,8 @@ const PRODUCT: &str = "crates/quantities/src/wire_factor.rt";
 
 /// Every file that takes the number, and how often: the product, the listing's
 /// text with its length, the figures that go out, the array of what sinks add
-/// to the short tree, which is read back as lengths.
-const PLACES: [(&str, usize); 8] = [
+/// to the short tree, which is read back as lengths, the router's score.
+const PLACES: [(&str, usize); 9] = [
     (PRODUCT, 1),
     ("crates/formats/src/write_listing.rt", 1),
     ("crates/formats/src/listing_length.rt", 1),
@@ -27,6 +27,7 @@ const PLACES: [(&str, usize); 8] = [
     ("crates/short_tree/src/choose.rt", 1),
     ("crates/short_tree/src/grow.rt", 1),
     ("crates/short_tree/src/renew.rt", 1),
+    ("crates/scoring/src/score.rt", 1),
 ];
 
 /// How many places are listed.

@@ -251,10 +251,10 @@ impl Report {
     fn same_number(
         &mut self,
         stated: &str,
-        value: u64,
+        value: i64,
         file: &str,
         name: &str,
-        found: Option<&u64>,
+        found: Option<&i64>,
     ) {
         match found {
             Some(other) if *other == value => {}

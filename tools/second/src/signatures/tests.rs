@@ -79,10 +79,10 @@ fn the_sources_agree() {
     assert_eq!(report.differences, [""; 0]);
     let exported = sources().library.matches("#[no_mangle]").count();
     assert_eq!(report.functions, exported);
-    assert!(report.limits >= 5);
-    assert_eq!(report.places, 9);
+    assert!(report.limits >= 8);
+    assert_eq!(report.places, 10);
     // one for each refusal, two for the wrong number of children
-    assert_eq!(report.wordings, 14);
+    assert_eq!(report.wordings, 15);
 }
 
 #[test]
@@ -102,12 +102,12 @@ fn other_words_are_told() {
     let twice = planted(words, "a number is out of range", "a number is too large");
     assert_eq!(twice.len(), 2, "{twice:?}");
     told(
-        planted(refusals, "(13, _) =>", "(14, _) =>"),
-        "refusal 13 is None",
+        planted(refusals, "(14, _) =>", "(15, _) =>"),
+        "refusal 14 is None",
     );
     told(
-        planted(header, "case REPEATER_TREE_FAR_PIN:", "case 13:"),
-        "refusal 13 is None",
+        planted(header, "case REPEATER_TREE_NOT_SCORED:", "case 14:"),
+        "refusal 14 is None",
     );
 }
 
@@ -128,12 +128,21 @@ fn another_order_is_told() {
         "line: *mut usize,\n        text: *mut u8,",
     );
     told(swapped, "has `line: *mut usize` where");
+    for name in ["repeater_tree_judge", "repeater_tree_score"] {
+        let swapped = planted_behind(
+            &format!("fn {name}("),
+            library,
+            "net: &[u8],\n    listing: &[u8],",
+            "listing: &[u8],\n    net: &[u8],",
+        );
+        told(swapped, &format!("{name} has `net: *const u8` where"));
+    }
     let swapped = planted(
-        library,
-        "net: &[u8],\n    listing: &[u8],",
-        "listing: &[u8],\n    net: &[u8],",
+        header,
+        "int64_t alpha_1024ths, int64_t beta_1024ths",
+        "int64_t beta_1024ths, int64_t alpha_1024ths",
     );
-    told(swapped, "repeater_tree_judge has `net: *const u8` where");
+    told(swapped, "has `beta_1024ths: i64` where");
 }
 
 #[test]
@@ -167,6 +176,26 @@ fn another_type_is_told() {
         "`bytes: usize`",
     );
     told(
+        planted(calls, "cap: i64", "cap: u64"),
+        "`cap: u64` where crates/repeater_tree/src/lib.rt has `cap: i64`",
+    );
+    told(
+        planted(calls, "score: *mut f64", "score: *mut f32"),
+        "`score: *mut f32`",
+    );
+    told(
+        planted(header, "int64_t cap", "int64_t *cap"),
+        "`cap: *mut i64`",
+    );
+    told(
+        planted(header, "double *score", "int64_t *score"),
+        "`score: *mut i64`",
+    );
+    told(
+        planted(header, "double *score", "float *score"),
+        "`score: *mut float` where crates/repeater_tree/src/lib.rt has `score: *mut f64`",
+    );
+    told(
         planted_behind(EXPORTED, library, "out: &mut [u8]", "out: &[u8]"),
         "`out: *const u8`",
     );
@@ -193,8 +222,8 @@ fn another_type_is_told_of_every_function() {
             planted_behind(
                 &format!("{name}_lent("),
                 header,
-                "int64_t *slack",
-                "double *slack",
+                "uint8_t *text",
+                "double *text",
             ),
         ] {
             told(differences, &format!("{name} has `"));
@@ -328,6 +357,44 @@ fn another_limit_is_told() {
     told(
         planted(wrapper, "pub const NET_LENGTH:", "pub const LONGEST:"),
         "no REPEATER_TREE_LONGEST",
+    );
+}
+
+/// Also one that is below zero, where the sign alone differs.
+#[test]
+fn another_limit_of_scores_is_told() {
+    for (name, old, new, value) in [
+        ("PARTS", " 1024", " 1000", "1000"),
+        (
+            "CAP_LIMIT",
+            " 1000000000000",
+            " 100000000000",
+            "100000000000",
+        ),
+        (
+            "LOWEST",
+            "(-1000000000000)",
+            "(-100000000000)",
+            "-100000000000",
+        ),
+        (
+            "LOWEST",
+            "(-1000000000000)",
+            "1000000000000",
+            "1000000000000",
+        ),
+    ] {
+        let before = format!("#define REPEATER_TREE_{name} ");
+        let differences = planted_behind(&before, header, old, new);
+        assert_eq!(differences.len(), 2, "{differences:?}");
+        told(
+            differences,
+            &format!("REPEATER_TREE_{name} is {value}, {LIMITS} has "),
+        );
+    }
+    told(
+        planted(wrapper, "= -1_000_000_000_000;", "= 1_000_000_000_000;"),
+        "REPEATER_TREE_LOWEST is -1000000000000, callers/rust/src/lib.rs has 1000000000000",
     );
 }
 
