@@ -8,6 +8,13 @@ pub struct Refusal {
     pub line: usize,
 }
 
+/// Where nothing is refused.
+const NONE: Refusal = Refusal {
+    number: 0,
+    text: 0,
+    line: 0,
+};
+
 /// All figures of a call. At a refusal the last three are 0, otherwise the
 /// first three.
 #[derive(Clone, Copy, Debug, PartialEq, Eq)]
@@ -48,6 +55,32 @@ impl Answer {
         match result {
             Ok((slack, wire, last)) => Answer::done(slack, wire, last),
             Err(refusal) => Answer::refused(refusal),
+        }
+    }
+}
+
+/// All figures of a score call. At a refusal the score is plus zero, otherwise
+/// the first three are 0.
+#[derive(Clone, Copy, Debug, PartialEq, Eq)]
+pub struct Score {
+    pub number: u8,
+    pub text: u8,
+    pub line: usize,
+    /// The binary64's bits, since minus zero is equal to plus zero.
+    pub bits: u64,
+}
+
+impl Score {
+    pub fn of(result: Result<u64, Refusal>) -> Score {
+        let (refusal, bits) = match result {
+            Ok(bits) => (NONE, bits),
+            Err(refusal) => (refusal, 0),
+        };
+        Score {
+            number: refusal.number,
+            text: refusal.text,
+            line: refusal.line,
+            bits,
         }
     }
 }

@@ -1,5 +1,5 @@
-//! All three plans and judge, written twice from the order alone, and the first plan
-//! once more in request 3's order of work.
+//! All three plans, judge and score, written twice from the order alone, and the
+//! first plan once more in request 3's order of work.
 //!
 //! `slow` does what the order says word by word: it builds and measures every
 //! candidate tree, and takes the Kraft maximum from its definition.
@@ -9,10 +9,13 @@
 //! trees that are no shorter.
 //! `weighted` is the third plan word by word; `rivals` has the trees whose sum of
 //! weight × delay is no less.
-//! `plain` is what a competent engineer would write, all plans and judge; it
+//! `score` is the router's score word by word, whose bits `binary64` puts together
+//! by whole numbers alone.
+//! `plain` is what a competent engineer would write, all plans, judge and score; it
 //! shares nothing with these but the form of the answer.
 
 pub mod answer;
+pub mod binary64;
 pub mod gathered;
 pub mod insertion;
 pub mod kraft;
@@ -20,10 +23,12 @@ pub mod listing;
 pub mod net;
 pub mod plain;
 pub mod rivals;
+pub mod score;
 pub mod short;
 pub mod slow;
 pub mod spanning;
 pub mod spelling;
+pub mod terms;
 pub mod tree;
 pub mod weighted;
 
@@ -37,6 +42,8 @@ mod random_tests;
 mod range_tests;
 #[cfg(test)]
 mod rivals_tests;
+#[cfg(test)]
+mod score_tests;
 #[cfg(test)]
 mod short_tests;
 #[cfg(test)]

@@ -10,7 +10,7 @@ use crate::{gathered, plain, slow};
 pub(crate) struct Random(pub u64);
 
 impl Random {
-    fn below(&mut self, limit: i64) -> i64 {
+    pub fn below(&mut self, limit: i64) -> i64 {
         self.0 ^= self.0 << 13;
         self.0 ^= self.0 >> 7;
         self.0 ^= self.0 << 17;

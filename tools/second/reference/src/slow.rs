@@ -69,7 +69,8 @@ pub fn judge(net: &[u8], listing: &[u8]) -> Answer {
     Answer::of(try_judge(net, listing))
 }
 
-fn try_judge(net: &[u8], listing: &[u8]) -> Result<(i64, u64, i64), Refusal> {
+/// Slack, wire and best.
+pub fn try_judge(net: &[u8], listing: &[u8]) -> Result<(i64, u64, i64), Refusal> {
     let net = Net::read(net)?;
     let listing = Listing::read(listing, &net)?;
     let refuse = |number, line| {

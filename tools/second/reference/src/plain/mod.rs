@@ -1,15 +1,17 @@
-//! All three plans and judge as a competent engineer would write them, quadratic
-//! in the sinks, the short tree on most nets, the third plan less: the reference
-//! for large nets and the baseline of the benchmark.
+//! All three plans, judge and score as a competent engineer would write them,
+//! quadratic in the sinks, the short tree on most nets, the third plan and the
+//! score less: the reference for large nets and the baseline of the benchmark.
 
 mod grow;
 mod read;
+mod score;
 mod short;
 mod text;
 mod tree;
 mod weighted;
 
-use crate::answer::{Answer, Refusal};
+use crate::answer::{Answer, Refusal, Score};
+use crate::terms::Terms;
 use read::Point;
 
 pub fn plan(net: &[u8], out: &mut [u8]) -> Answer {
@@ -90,9 +92,15 @@ pub fn judge(net: &[u8], listing: &[u8]) -> Answer {
 
 fn try_judge(net: &[u8], listing: &[u8]) -> Result<(i64, u64, i64), Refusal> {
     let net = read::net(net)?;
-    let listing = read::listing(listing, &net)?;
+    let (slack, wire) = measured(&net, listing)?;
+    Ok((slack, wire as u64, grow::best(&net)))
+}
+
+/// Slack and wire as the listing states them, if it is legal and they are true.
+fn measured(net: &read::Net, listing: &[u8]) -> Result<(i64, i64), Refusal> {
+    let listing = read::listing(listing, net)?;
     let order = tree::top_down(net.sinks(), &listing.parent)?;
-    let slack = tree::worst_slack(&net, &listing.parent, &listing.points, &order);
+    let slack = tree::worst_slack(net, &listing.parent, &listing.points, &order);
     if slack != listing.slack {
         return Err(Refusal {
             number: 11,
@@ -108,5 +116,16 @@ fn try_judge(net: &[u8], listing: &[u8]) -> Result<(i64, u64, i64), Refusal> {
             line: 2,
         });
     }
-    Ok((slack, wire as u64, grow::best(&net)))
+    Ok((slack, wire))
+}
+
+/// The router's score.
+pub fn score(net: &[u8], listing: &[u8], terms: Terms) -> Score {
+    Score::of(try_score(net, listing, terms).map(f64::to_bits))
+}
+
+fn try_score(net: &[u8], listing: &[u8], terms: Terms) -> Result<f64, Refusal> {
+    let net = read::net(net)?;
+    let (slack, wire) = measured(&net, listing)?;
+    score::score(slack, wire, terms)
 }
