@@ -3,6 +3,7 @@
 
 pub mod damage;
 pub mod decided;
+pub mod due;
 pub mod kinds;
 pub mod library;
 pub mod metals;
@@ -15,12 +16,14 @@ pub mod programs;
 pub mod random;
 pub mod ranges;
 pub mod scaled;
+pub mod scores;
 pub mod session;
 pub mod shapes;
 pub mod short;
 pub mod signatures;
 pub mod stored;
 pub mod streets;
+pub mod terms;
 pub mod timing;
 pub mod trees;
 pub mod weighted;

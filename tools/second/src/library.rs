@@ -1,8 +1,9 @@
 //! The library's calls in the form of the reference's answers.
 
 use repeater_tree::{judge_figures, plan_figures, plan_short_figures, plan_weighted_figures};
-use repeater_tree::{JudgeFigures, PlanFigures};
-use second_reference::answer::Answer;
+use repeater_tree::{score_figures, JudgeFigures, PlanFigures, ScoreFigures};
+use second_reference::answer::{Answer, Score};
+use second_reference::terms::Terms;
 
 /// The first plan.
 pub fn plan(net: &[u8], out: &mut [u8]) -> Answer {
@@ -58,5 +59,23 @@ pub fn judge(net: &[u8], listing: &[u8]) -> Answer {
         slack: f.slack,
         wire: f.wire,
         last: f.best,
+    }
+}
+
+/// The router's score.
+pub fn score(net: &[u8], listing: &[u8], terms: Terms) -> Score {
+    let mut f = ScoreFigures {
+        number: 99,
+        text: 99,
+        line: 99,
+        score: -99.0,
+    };
+    let Terms { alpha, beta, cap } = terms;
+    score_figures(net, listing, alpha, beta, cap, &mut f);
+    Score {
+        number: f.number,
+        text: f.text,
+        line: f.line,
+        bits: f.score.to_bits(),
     }
 }

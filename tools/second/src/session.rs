@@ -4,6 +4,7 @@
 use crate::decided::Decided;
 use crate::library;
 use crate::planners::{Planner, GATHERED, PLAIN, SLOW};
+use crate::scores::Scores;
 use crate::short::Shorts;
 use crate::trees;
 use crate::weighted::Weighted;
@@ -18,11 +19,11 @@ use std::collections::BTreeMap;
 pub(crate) const GUARD: usize = 64;
 /// Enough to see what is wrong without flooding the screen.
 const MOST_PRINTED: u64 = 20;
-const LAST_NUMBER: u8 = 13;
+const LAST_NUMBER: u8 = 14;
 /// Gathering takes long on large nets: one case in so many has them.
 const LARGE_GATHERED: u64 = 8;
 
-/// What was compared. Only the first four run the library.
+/// What was compared. Only the first five run the library.
 #[derive(Clone, Copy, Debug, Default)]
 pub struct Counts {
     /// First plans.
@@ -32,6 +33,7 @@ pub struct Counts {
     /// Third plans.
     pub weighted: u64,
     pub judgements: u64,
+    pub scores: u64,
     /// Runs of the programs.
     pub runs: u64,
     /// Rival trees that the tool measures itself, against the library's best.
@@ -49,7 +51,7 @@ pub struct Counts {
 
 impl Counts {
     pub fn calls(&self) -> u64 {
-        self.plans + self.shorts + self.weighted + self.judgements
+        self.plans + self.shorts + self.weighted + self.judgements + self.scores
     }
 
     pub fn own(&self) -> u64 {
@@ -61,6 +63,7 @@ impl Counts {
         self.shorts += other.shorts;
         self.weighted += other.weighted;
         self.judgements += other.judgements;
+        self.scores += other.scores;
         self.runs += other.runs;
         self.rivals += other.rivals;
         self.gathered += other.gathered;
@@ -88,8 +91,8 @@ pub struct Session {
     /// By kind of case.
     pub counts: BTreeMap<&'static str, Counts>,
     /// Answers by the refusal's number: of plan, of judge, of the short tree, of
-    /// the third plan.
-    pub numbers: [[u64; LAST_NUMBER as usize + 1]; 4],
+    /// the third plan, of score.
+    pub numbers: [[u64; LAST_NUMBER as usize + 1]; 5],
     /// Plans in which an edge above a branch point was split.
     pub split_above_branch_point: u64,
     /// Plans of nets with a pin just at the limit, and at an end of the range.
@@ -104,6 +107,7 @@ pub struct Session {
     pub pairs: Pairs,
     pub shorts: Shorts,
     pub weighted: Weighted,
+    pub scores: Scores,
 }
 
 /// What a plan left in the output, beside its figures.
@@ -140,8 +144,8 @@ impl Session {
     }
 
     /// By the place of its call among the numbers.
-    pub(crate) fn count_number(&mut self, call: usize, answer: Answer) {
-        self.numbers[call][answer.number.min(LAST_NUMBER) as usize] += 1;
+    pub(crate) fn count_number(&mut self, call: usize, number: u8) {
+        self.numbers[call][number.min(LAST_NUMBER) as usize] += 1;
     }
 
     /// Plans with an output of this length, on the library and on each
@@ -150,7 +154,7 @@ impl Session {
         self.count().plans += 1;
         let mut out = fill(length + GUARD);
         let answer = library::plan(net, &mut out[..length]);
-        self.count_number(0, answer);
+        self.count_number(0, answer.number);
         let got = (answer, &out[..]);
         let plain = self.compare_with(PLAIN, net, got);
         let read = Net::read(net);
@@ -256,7 +260,7 @@ impl Session {
     pub fn judge(&mut self, net: &[u8], listing: &[u8]) -> Answer {
         self.count().judgements += 1;
         let answer = library::judge(net, listing);
-        self.count_number(1, answer);
+        self.count_number(1, answer.number);
         for (who, expected) in [
             ("slow", slow::judge(net, listing)),
             ("plain", plain::judge(net, listing)),

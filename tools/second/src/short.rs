@@ -39,7 +39,7 @@ impl Session {
         self.count().shorts += 1;
         let mut out = fill(length + GUARD);
         let answer = library::plan_short(net, &mut out[..length]);
-        self.count_number(2, answer);
+        self.count_number(2, answer.number);
         let got = (answer, &out[..]);
         self.compare_with(SHORT_PLAIN, net, got);
         if self.is_in_slow_reach(net) {

@@ -2,14 +2,13 @@
 //! against what request 7 says of every one.
 
 use crate::library;
-use crate::planners::{Planner, PLAIN, SHORT_PLAIN, WEIGHTED_PLAIN, WEIGHTED_SLOW};
+use crate::planners::{tree_of, PLAIN, SHORT_PLAIN, WEIGHTED_PLAIN, WEIGHTED_SLOW};
 use crate::random::Random;
 use crate::session::{fill, Planned, Session, GUARD};
 use crate::trees;
-use repeater_tree::LISTING_LENGTH;
 use second_reference::insertion::settle;
 use second_reference::listing::Listing;
-use second_reference::net::{Net, COORDINATE, NEED};
+use second_reference::net::{Net, COORDINATE};
 use second_reference::rivals;
 use second_reference::tree::{children, Tree};
 use second_reference::weighted::weighted_delay;
@@ -47,7 +46,7 @@ impl Session {
         self.count().weighted += 1;
         let mut out = fill(length + GUARD);
         let answer = library::plan_weighted(net, &mut out[..length]);
-        self.count_number(3, answer);
+        self.count_number(3, answer.number);
         let got = (answer, &out[..]);
         self.compare_with(WEIGHTED_PLAIN, net, got);
         self.compare_with(WEIGHTED_SLOW, net, got);
@@ -130,16 +129,6 @@ impl Session {
         let text = net.text();
         self.expect(sum == least, &what, plan.answer, &text, plan.listing());
     }
-}
-
-/// The tree of another plan, whatever the net needs; none where it is refused.
-fn tree_of(net: &Net, by: Planner) -> Option<Tree> {
-    let mut net = net.clone();
-    net.need = NEED.0;
-    let mut out = vec![0; LISTING_LENGTH];
-    let length = by.1(&net.text(), &mut out).last as usize;
-    let listing = Listing::read(&out[..length], &net);
-    listing.ok().map(|listing| listing.tree)
 }
 
 /// Whether two vertices that waited at the same time had the same weight. Those

@@ -90,22 +90,23 @@ fn nothing_ran(s: &Session) -> bool {
 /// The last line says what was compared, each count of its own.
 fn print_counts(s: &Session) {
     println!(
-        "{:>16} {:>9} {:>9} {:>9} {:>9} {:>9} {:>9} {:>9}",
-        "kind of case", "plans", "short", "weighted", "judged", "runs", "own", "disagree"
+        "{:>16} {:>9} {:>9} {:>9} {:>9} {:>9} {:>9} {:>9} {:>9}",
+        "kind of case", "plans", "short", "weighted", "judged", "scores", "runs", "own", "disagree"
     );
     for (kind, counts) in &s.counts {
         println!(
-            "{kind:>16} {:>9} {:>9} {:>9} {:>9} {:>9} {:>9} {:>9}",
+            "{kind:>16} {:>9} {:>9} {:>9} {:>9} {:>9} {:>9} {:>9} {:>9}",
             counts.plans,
             counts.shorts,
             counts.weighted,
             counts.judgements,
+            counts.scores,
             counts.runs,
             counts.own(),
             counts.disagreements
         );
     }
-    let calls = ["plan", "judge", "plan_short", "plan_weighted"];
+    let calls = ["plan", "judge", "plan_short", "plan_weighted", "score"];
     for (call, numbers) in calls.iter().zip(&s.numbers) {
         let last = numbers.len() - 1;
         println!("{call} answers by number, 0 to {last}: {numbers:?}");
@@ -149,6 +150,12 @@ fn print_counts(s: &Session) {
         "pairs of nets alike but for weights: {}, {} of them with other third plans",
         weighted.pairs, weighted.differing
     );
+    let scores = &s.scores;
+    println!(
+        "scores: {} given, {} of them by the cap, {} zero, {} of these by a weight of 0 on a \
+         negative slack; {} refused by 14, {} of them for a low slack alone",
+        scores.given, scores.capped, scores.zero, scores.of_negative, scores.refused, scores.low
+    );
     let total = s.total();
     println!(
         "measured by the tool itself: {} rival trees against the library's best; on {} nets \
@@ -164,13 +171,14 @@ fn print_counts(s: &Session) {
         total.heavier
     );
     println!(
-        "compared {} calls of the library ({} plans, {} short trees, {} third plans, {} judgements) \
-         and {} runs of the programs; {} disagreements",
+        "compared {} calls of the library ({} plans, {} short trees, {} third plans, {} judgements, \
+         {} scores) and {} runs of the programs; {} disagreements",
         total.calls(),
         total.plans,
         total.shorts,
         total.weighted,
         total.judgements,
+        total.scores,
         total.runs,
         total.disagreements
     );

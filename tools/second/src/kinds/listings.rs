@@ -92,13 +92,19 @@ pub fn rings(s: &mut Session, r: &mut Random) {
     let text = net.text();
     let listing = random_listing(r, &NANOMETRES, &net);
     for _ in 0..4 {
-        let mut other = listing.clone();
-        let (i, j) = (1 + r.index(2 * n - 1), 1 + r.index(2 * n - 1));
-        match r.index(4) {
-            0 => other.tree.parent[i] = r.index(2 * n),
-            1 => other.tree.parent[i] = i,
-            _ => other.tree.parent.swap(i, j),
-        }
+        let other = with_odd_parents(r, &listing);
         s.judge(&text, &other.text());
     }
+}
+
+pub fn with_odd_parents(r: &mut Random, listing: &Listing) -> Listing {
+    let mut other = listing.clone();
+    let vertices = other.tree.parent.len();
+    let (i, j) = (1 + r.index(vertices - 1), 1 + r.index(vertices - 1));
+    match r.index(4) {
+        0 => other.tree.parent[i] = r.index(vertices),
+        1 => other.tree.parent[i] = i,
+        _ => other.tree.parent.swap(i, j),
+    }
+    other
 }

@@ -7,6 +7,10 @@ mod listings;
 mod metals;
 mod planned;
 mod scaled;
+mod score_ends;
+mod score_zero;
+mod scored;
+mod scores;
 mod short;
 mod spoilt;
 mod weight_line;
@@ -15,6 +19,8 @@ mod wire_line;
 
 use crate::random::Random;
 use crate::session::Session;
+
+pub use listings::random_listing;
 
 pub struct Kind {
     pub name: &'static str,
@@ -100,4 +106,11 @@ pub const ALL: &[Kind] = &[
     kind("weighted-cuts", 50, weighted::cuts),
     kind("weights-ignored", 1, weighted::ignored),
     kind("weight-line", 20, weight_line::all),
+    kind("score-marked", 100, scores::marked),
+    kind("score-random", 1, scores::random),
+    kind("score-zero", 1, score_zero::all),
+    kind("score-ends", 5, score_ends::ends),
+    kind("score-low", 1, score_ends::low),
+    kind("score-refused", 1, score_ends::refused),
+    kind("score-large", 10, scores::large),
 ];

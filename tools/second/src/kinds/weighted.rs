@@ -28,7 +28,7 @@ pub fn marked(s: &mut Session, r: &mut Random) {
 }
 
 /// Of every shape, whether its times are of a kind or its places.
-fn any_shape(r: &mut Random) -> Make {
+pub fn any_shape(r: &mut Random) -> Make {
     let (_, make) = r.pick(&SHAPES);
     r.pick(&[make, streets::any])
 }
