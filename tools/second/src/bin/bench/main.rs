@@ -9,9 +9,11 @@
 //!   million   a million different small nets
 //!   short     short trees by shape and size of the net
 //!   weighted  third plans by weights and size of the net
+//!   score     scores of plans beside judgements of them
 //!   compare   wire and slack of the short tree beside the first plan's
 
 mod plans;
+mod score;
 mod short;
 mod table;
 mod weighted;
@@ -47,13 +49,14 @@ const SIZES: [usize; 8] = [1, 5, 12, 16, 17, 50, 200, 512];
 /// Different nets of one shape and size.
 const NETS: usize = 12;
 
-const PARTS: [(&str, fn()); 7] = [
+const PARTS: [(&str, fn()); 8] = [
     ("plan", timed_plans),
     ("judge", judged_plans),
     ("paths", judged_paths),
     ("million", million),
     ("short", short::short_trees),
     ("weighted", weighted::third_plans),
+    ("score", score::scored_plans),
     ("compare", plans::both_plans),
 ];
 
@@ -122,7 +125,7 @@ fn time_plans(make: Make, n: usize) -> Times {
         library,
         plain,
         plainest: plain,
-        plan: library,
+        other: library,
     }
 }
 
@@ -138,7 +141,7 @@ fn time_judgements(make: Make, n: usize, listing: fn(&Net) -> Vec<u8>) -> Times 
         library,
         plain,
         plainest: plain,
-        plan,
+        other: plan,
     }
 }
 
@@ -172,10 +175,10 @@ fn print_judgements(name: &str, listing: fn(&Net) -> Vec<u8>) {
     );
     table.print(
         &format!("{name}: its time over that of plan on the same net"),
-        |times| format!("{:.2}", times.over_plan()),
+        |times| format!("{:.2}", times.over_other()),
     );
     table.print_largest(&format!("{name} over plain"), Times::over_plain);
-    table.print_largest(&format!("{name} over plan"), Times::over_plan);
+    table.print_largest(&format!("{name} over plan"), Times::over_other);
     table.print_growth();
 }
 

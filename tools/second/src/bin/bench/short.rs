@@ -70,7 +70,7 @@ fn time(make: Make, n: usize) -> Times {
         library,
         plain,
         plainest,
-        plan,
+        other: plan,
     }
 }
 
@@ -86,9 +86,9 @@ pub fn short_trees() {
     );
     table.print(
         "plan_short: its time over that of plan on the same net",
-        |times| format!("{:.2}", times.over_plan()),
+        |times| format!("{:.2}", times.over_other()),
     );
     table.print_largest("plan_short over plain", Times::over_plain);
-    table.print_largest("plan_short over plan", Times::over_plan);
+    table.print_largest("plan_short over plan", Times::over_other);
     table.print_growth();
 }

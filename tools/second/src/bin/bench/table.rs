@@ -9,8 +9,9 @@ pub struct Times {
     pub plain: f64,
     /// By the plain implementation's plainest way.
     pub plainest: f64,
-    /// The library's first plan of the same net.
-    pub plan: f64,
+    /// Another call of the library: the first plan of the same net, or the
+    /// judgement of what is scored.
+    pub other: f64,
 }
 
 impl Times {
@@ -18,8 +19,8 @@ impl Times {
         self.library / self.plain
     }
 
-    pub fn over_plan(&self) -> f64 {
-        self.library / self.plan
+    pub fn over_other(&self) -> f64 {
+        self.library / self.other
     }
 
     pub fn beside_plain(&self) -> String {

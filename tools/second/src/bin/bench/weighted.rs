@@ -63,7 +63,7 @@ fn time(make: Make, n: usize) -> Times {
         library,
         plain,
         plainest: plain,
-        plan,
+        other: plan,
     }
 }
 
@@ -75,9 +75,9 @@ pub fn third_plans() {
     );
     table.print(
         "plan_weighted: its time over that of plan on the same net",
-        |times| format!("{:.2}", times.over_plan()),
+        |times| format!("{:.2}", times.over_other()),
     );
     table.print_largest("plan_weighted over plain", Times::over_plain);
-    table.print_largest("plan_weighted over plan", Times::over_plan);
+    table.print_largest("plan_weighted over plan", Times::over_other);
     table.print_growth();
 }
