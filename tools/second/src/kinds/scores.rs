@@ -4,7 +4,6 @@
 use super::scored::{in_range, judged, of_slack, plans, trees_over};
 use super::weighted::any_shape;
 use crate::metals;
-use crate::planners::{tree_of, PLAIN};
 use crate::random::Random;
 use crate::scores::Judged;
 use crate::session::Session;
@@ -15,23 +14,48 @@ use second_reference::net::{Factors, Net, COORDINATE};
 use second_reference::terms::Terms;
 use second_reference::tree::Point;
 
-/// The first plan's scores by A, B and the cap, worked out by hand. Its slack and
-/// wire are 0 and 32, then -4 and 7, then 2 and 1.
-const WORKED: [(&str, [i64; 3], f64); 14] = [
-    ("marked-a-3", [1024, 1024, 0], -32.0),
-    ("marked-a-3", [1024, 1, CAP.1], -0.03125),
-    ("marked-a-3", [0, 512, 1], -16.0),
-    ("marked-a-3", [1024, 0, CAP.1], 0.0),
-    ("marked-alone-1", [1024, 1024, 0], -11.0),
-    ("marked-alone-1", [1, 0, CAP.1], -0.00390625),
-    ("marked-alone-1", [0, 1024, 0], -7.0),
-    ("marked-alone-1", [0, 0, 0], 0.0),
-    ("marked-equal-2", [1024, 1024, 0], -1.0),
-    ("marked-equal-2", [1024, 1024, 1], 0.0),
-    ("marked-equal-2", [1024, 1024, 2], 1.0),
-    ("marked-equal-2", [1024, 1024, 3], 1.0),
-    ("marked-equal-2", [512, 1024, 2], 0.0),
-    ("marked-equal-2", [512, 1024, 1], -0.5),
+/// Scores of a tree by A, B and the cap, worked out by hand.
+struct Worked {
+    net: &'static str,
+    listing: &'static [u8],
+    scores: &'static [([i64; 3], f64)],
+}
+
+/// First plans of marked nets.
+const WORKED: [Worked; 3] = [
+    Worked {
+        net: "marked-a-3",
+        listing:
+            b"slack=0\nwire=32\nsinks=3\nleaf=1,5\nleaf=2,5\nleaf=3,4\nnode=4,0,4,0\nnode=5,4,4,0\n",
+        scores: &[
+            ([1024, 1024, 0], -32.0),
+            ([1024, 1, CAP.1], -0.03125),
+            ([0, 512, 1], -16.0),
+            ([1024, 0, CAP.1], 0.0),
+        ],
+    },
+    Worked {
+        net: "marked-alone-1",
+        listing: b"slack=-4\nwire=7\nsinks=1\nleaf=1,0\n",
+        scores: &[
+            ([1024, 1024, 0], -11.0),
+            ([1, 0, CAP.1], -0.00390625),
+            ([0, 1024, 0], -7.0),
+            ([0, 0, 0], 0.0),
+        ],
+    },
+    Worked {
+        net: "marked-equal-2",
+        listing: b"slack=2\nwire=1\nsinks=2\nleaf=1,3\nleaf=2,3\nnode=3,0,0,0\n",
+        scores: &[
+            ([1024, 1024, 0], -1.0),
+            ([1024, 1024, 1], 0.0),
+            ([1024, 1024, 2], 1.0),
+            ([1024, 1024, 3], 1.0),
+            ([512, 1024, 2], 0.0),
+            ([512, 1024, 1], -0.5),
+        ],
+    },
 ];
 
 pub fn marked(s: &mut Session, _: &mut Random) {
@@ -45,9 +69,9 @@ pub fn marked(s: &mut Session, _: &mut Random) {
             let tree = judged(s, &net, tree);
             every_end(s, &tree);
         }
-        if let Some(tree) = tree_of(&net, PLAIN) {
-            let tree = judged(s, &net, tree);
-            as_worked_out(s, name, &tree);
+        for worked in WORKED.iter().filter(|worked| worked.net == *name) {
+            let tree = s.judged(text.to_vec(), worked.listing.to_vec());
+            as_worked_out(s, &tree, worked.scores);
         }
     }
 }
@@ -65,9 +89,9 @@ fn every_end(s: &mut Session, tree: &Judged) {
     }
 }
 
-fn as_worked_out(s: &mut Session, name: &str, tree: &Judged) {
-    for (_, [alpha, beta, cap], score) in WORKED.iter().filter(|(net, ..)| *net == name) {
-        let terms = Terms::new(*alpha, *beta, *cap);
+fn as_worked_out(s: &mut Session, tree: &Judged, scores: &[([i64; 3], f64)]) {
+    for &([alpha, beta, cap], score) in scores {
+        let terms = Terms::new(alpha, beta, cap);
         let got = s.score(tree, terms);
         let same = (got.number, got.bits) == (0, score.to_bits());
         let what = format!("{score} is worked out by hand");

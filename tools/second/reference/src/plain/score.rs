@@ -3,7 +3,9 @@
 use crate::answer::Refusal;
 use crate::terms::Terms;
 
-const TOTAL: i64 = 1024;
+/// A weight of 1, in 1024ths.
+const ONE: i64 = 1024;
+/// Of the cap above zero, of a slack below it.
 const FARTHEST: i64 = 1_000_000_000_000;
 
 /// Each exactly so many 1024ths.
@@ -15,8 +17,8 @@ struct Weights {
 impl Weights {
     fn of(terms: Terms) -> Weights {
         Weights {
-            alpha: terms.alpha as f64 / TOTAL as f64,
-            beta: terms.beta as f64 / TOTAL as f64,
+            alpha: terms.alpha as f64 / ONE as f64,
+            beta: terms.beta as f64 / ONE as f64,
         }
     }
 }
@@ -36,8 +38,8 @@ pub fn score(slack: i64, wire: i64, terms: Terms) -> Result<f64, Refusal> {
 }
 
 fn is_allowed(terms: Terms) -> bool {
-    (0..=TOTAL).contains(&terms.alpha)
-        && (0..=TOTAL).contains(&terms.beta)
+    (0..=ONE).contains(&terms.alpha)
+        && (0..=ONE).contains(&terms.beta)
         && (0..=FARTHEST).contains(&terms.cap)
 }
 
