@@ -1,7 +1,7 @@
 /* The repeater tree planner: five calls on text.
  *
  * docs/FORMAT.md has the two texts, their ranges and the rules of the three
- * plans.
+ * plans and of the score.
  * Positions and lengths are in nanometres (nm), times in attoseconds (as),
  * the two wire factors in as per nm, which is fs per um. A distance is
  * |dx| + |dy|. The net's line wire=h,v gives a factor for each metal direction,
@@ -60,8 +60,9 @@ extern "C" {
 /* The largest cap of a score, in as; the least is 0. */
 #define REPEATER_TREE_CAP_LIMIT 1000000000000
 
-/* The least worst slack of a tree that is scored, in as. */
-#define REPEATER_TREE_LOWEST (-1000000000000)
+/* A tree is too late for a score where its worst slack is below minus this, in
+ * as. */
+#define REPEATER_TREE_LATE_LIMIT 1000000000000
 
 /* No call takes more of its thread's stack, in bytes. The caller's own frames,
  * and what the system keeps on a thread's stack, come on top. */
@@ -111,8 +112,8 @@ enum {
     REPEATER_TREE_FAR_PIN = 13,
     /* score: alpha_1024ths or beta_1024ths is not 0 to REPEATER_TREE_PARTS, cap
      * is not 0 to REPEATER_TREE_CAP_LIMIT, or the lesser of worst slack and cap
-     * is below REPEATER_TREE_LOWEST, also where alpha is 0. The other refusals
-     * go before. Text 0, line 0. */
+     * is below minus REPEATER_TREE_LATE_LIMIT, also where alpha is 0. The other
+     * refusals go before. Text 0, line 0. */
     REPEATER_TREE_NOT_SCORED = 14
 };
 

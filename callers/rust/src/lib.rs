@@ -42,8 +42,9 @@ pub const WEIGHT_LIMIT: u64 = 1_000;
 pub const PARTS: i64 = 1_024;
 /// The largest cap of a score, in attoseconds; the least is 0.
 pub const CAP_LIMIT: i64 = 1_000_000_000_000;
-/// The least worst slack of a tree that is scored, in attoseconds.
-pub const LOWEST: i64 = -1_000_000_000_000;
+/// A tree is too late for a score where its worst slack is below minus this, in
+/// attoseconds.
+pub const LATE_LIMIT: i64 = 1_000_000_000_000;
 /// No call takes more of its thread's stack, in bytes. The caller's own frames,
 /// and what the system keeps on a thread's stack, come on top.
 pub const STACK: usize = 81_920;
@@ -163,7 +164,7 @@ pub fn judge(net: &[u8], listing: &[u8]) -> Result<Measures, Refusal> {
 /// nanometres; the larger the better. Alpha and beta are given in 1,024ths, 0 to
 /// [`PARTS`], and the cap is 0 to [`CAP_LIMIT`]. They may have any value: another
 /// than these is refused by number 14, and so is a tree whose worst slack is
-/// below [`LOWEST`], also where alpha is 0. [`judge`]'s refusals go before.
+/// below minus [`LATE_LIMIT`], also where alpha is 0. [`judge`]'s refusals go before.
 ///
 /// The score is -1,409,200,000,000 to 1,000,000,000,000 and exact: 1,024 times it
 /// is the whole number `alpha_1024ths` × min(worst slack, cap) -

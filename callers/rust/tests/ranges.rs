@@ -2,7 +2,7 @@
 //! the most wire of a plan by weights.
 
 use repeater_tree::{
-    judge, plan, plan_weighted, score, Measures, CAP_LIMIT, LISTING_LENGTH, LOWEST, PARTS,
+    judge, plan, plan_weighted, score, Measures, CAP_LIMIT, LATE_LIMIT, LISTING_LENGTH, PARTS,
 };
 
 const CORNER: i64 = -100_000_000;
@@ -100,8 +100,8 @@ fn the_longest_wire() {
 /// with none.
 #[test]
 fn the_ends_of_scores() {
-    let late = net(512, CORNER, LOST + LOWEST);
-    let lowest = score(&late, &longest(LOWEST), PARTS, PARTS, 0);
+    let late = net(512, CORNER, LOST - LATE_LIMIT);
+    let lowest = score(&late, &longest(-LATE_LIMIT), PARTS, PARTS, 0);
     assert_eq!(lowest, Ok(-1_409_200_000_000.0));
     let early = net(1, CORNER, 1_000_000_000_000_000);
     let straight = b"slack=1000000000000000\nwire=0\nsinks=1\nleaf=1,0\n";

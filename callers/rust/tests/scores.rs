@@ -1,7 +1,7 @@
 //! Marked scores: their bits, the ends of every range, and what is refused.
 
 use repeater_tree::{
-    judge, score, score_figures, Refusal, ScoreFigures, CAP_LIMIT, LISTING_LENGTH, LOWEST,
+    judge, score, score_figures, Refusal, ScoreFigures, CAP_LIMIT, LATE_LIMIT, LISTING_LENGTH,
     NET_LENGTH, PARTS,
 };
 
@@ -15,6 +15,9 @@ node=4,0,4,0\nnode=5,4,4,0\n";
 /// Its short tree.
 const SHORT: &str = "slack=-10\nwire=26\nsinks=3\nleaf=1,5\nleaf=2,4\nleaf=3,5\n\
 node=4,0,4,0\nnode=5,4,10,0\n";
+
+/// The least slack that is scored.
+const LOWEST: i64 = -LATE_LIMIT;
 
 const NOT_SCORED: Refusal = Refusal {
     number: 14,

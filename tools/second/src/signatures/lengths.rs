@@ -27,7 +27,7 @@ const PLACES: [(&str, usize); 9] = [
     ("crates/short_tree/src/choose.rt", 1),
     ("crates/short_tree/src/grow.rt", 1),
     ("crates/short_tree/src/renew.rt", 1),
-    ("crates/scoring/src/score.rt", 1),
+    ("crates/scoring/src/weights.rt", 1),
 ];
 
 /// How many places are listed.

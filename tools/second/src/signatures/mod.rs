@@ -251,10 +251,10 @@ impl Report {
     fn same_number(
         &mut self,
         stated: &str,
-        value: i64,
+        value: u64,
         file: &str,
         name: &str,
-        found: Option<&i64>,
+        found: Option<&u64>,
     ) {
         match found {
             Some(other) if *other == value => {}

@@ -3,7 +3,7 @@
 use super::words::words;
 use std::collections::BTreeMap;
 
-pub type Numbers = BTreeMap<String, i64>;
+pub type Numbers = BTreeMap<String, u64>;
 
 /// `pub const NAME: TYPE = NUMBER;`, in Rattle or Rust.
 pub fn of_constants(source: &str) -> Numbers {
@@ -12,9 +12,8 @@ pub fn of_constants(source: &str) -> Numbers {
         let Some(start) = stated.iter().position(|w| w == "const") else {
             continue;
         };
-        if let [_, name, colon, _, equals, value @ ..] = &stated[start..] {
-            let value = number(&value.concat());
-            if let (":", "=", Some(value)) = (colon.as_str(), equals.as_str(), value) {
+        if let [_, name, colon, _, equals, value] = &stated[start..] {
+            if let (":", "=", Some(value)) = (colon.as_str(), equals.as_str(), number(value)) {
                 found.insert(name.clone(), value);
             }
         }
@@ -22,15 +21,13 @@ pub fn of_constants(source: &str) -> Numbers {
     found
 }
 
-/// `#define PREFIX_NAME NUMBER`, by what follows the prefix; a negative number
-/// stands in parentheses.
+/// `#define PREFIX_NAME NUMBER`, by what follows the prefix.
 pub fn of_macros(header: &str, prefix: &str) -> Numbers {
     let mut found = Numbers::new();
     for line in header.lines() {
         let words: Vec<&str> = line.split_whitespace().collect();
         if let ["#define", name, value] = words[..] {
-            let value = number(value.trim_matches(['(', ')']));
-            if let (Some(name), Some(value)) = (name.strip_prefix(prefix), value) {
+            if let (Some(name), Some(value)) = (name.strip_prefix(prefix), number(value)) {
                 found.insert(name.to_string(), value);
             }
         }
@@ -38,7 +35,7 @@ pub fn of_macros(header: &str, prefix: &str) -> Numbers {
     found
 }
 
-fn number(word: &str) -> Option<i64> {
+fn number(word: &str) -> Option<u64> {
     word.replace('_', "").parse().ok()
 }
 

@@ -360,7 +360,6 @@ fn another_limit_is_told() {
     );
 }
 
-/// Also one that is below zero, where the sign alone differs.
 #[test]
 fn another_limit_of_scores_is_told() {
     for (name, old, new, value) in [
@@ -372,16 +371,10 @@ fn another_limit_of_scores_is_told() {
             "100000000000",
         ),
         (
-            "LOWEST",
-            "(-1000000000000)",
-            "(-100000000000)",
-            "-100000000000",
-        ),
-        (
-            "LOWEST",
-            "(-1000000000000)",
-            "1000000000000",
-            "1000000000000",
+            "LATE_LIMIT",
+            " 1000000000000",
+            " 1000000000001",
+            "1000000000001",
         ),
     ] {
         let before = format!("#define REPEATER_TREE_{name} ");
@@ -393,8 +386,13 @@ fn another_limit_of_scores_is_told() {
         );
     }
     told(
-        planted(wrapper, "= -1_000_000_000_000;", "= 1_000_000_000_000;"),
-        "REPEATER_TREE_LOWEST is -1000000000000, callers/rust/src/lib.rs has 1000000000000",
+        planted_behind(
+            "pub const LATE_LIMIT",
+            wrapper,
+            "= 1_000_000_000_000;",
+            "= 999_999_999_999;",
+        ),
+        "REPEATER_TREE_LATE_LIMIT is 1000000000000, callers/rust/src/lib.rs has 999999999999",
     );
 }
 
