@@ -1,5 +1,5 @@
 // The marked nets and lines that are checked by running the plans and judge: number, text and line of what each returns, and plan's bytes; of the nets of 02's
-// requests 1, 4, 5, 6 and 7 the listing.
+// requests 1, 4, 5, 6 and 7 the listing, of those of request 8 the score's bits.
 use first_plan::plan::plan;
 use formats::limits::LISTING_LENGTH_LIMIT;
 use formats::limits::NET_LENGTH_LIMIT;
@@ -9,6 +9,8 @@ use judging::judge::judge;
 use libc::STDOUT_FILENO;
 use operations::answers::JudgeAnswer;
 use operations::answers::PlanAnswer;
+use scoring::score::ScoreAnswer;
+use scoring::score::score;
 use short_tree::plan_short::plan_short;
 use weighted_tree::plan_weighted::plan_weighted;
 
@@ -104,6 +106,17 @@ fn show_weighted(net: &[u8]) {
             judge_written(net, &out, bytes);
         }
         PlanAnswer::PlanRefused { refusal } => show_refusal(refusal),
+    }
+}
+
+// The bits of the score, or its refusal.
+fn show_score(net: &[u8], listing: &[u8], alpha_1024ths: i64, beta_1024ths: i64, cap: i64) {
+    match score(net, listing, alpha_1024ths, beta_1024ths, cap) {
+        ScoreAnswer::Scored { score: given } => {
+            io::print_hex(STDOUT_FILENO, f64::to_bits(given), 16);
+            io::write_all(STDOUT_FILENO, b"\n");
+        }
+        ScoreAnswer::ScoreRefused { refusal } => show_refusal(refusal),
     }
 }
 
@@ -329,6 +342,103 @@ fn show_weights() {
     show_short(b"root=0,0\nbranch=20\nwire=2,2\nneed=0\nsinks=1\nsink=0,0,0\n");
 }
 
+// The score of A's plan, of slack 0 and wire 32.
+fn score_a(alpha_1024ths: i64, beta_1024ths: i64, cap: i64) {
+    show_score(
+        b"root=0,0\nbranch=20\nwire=2,2\nneed=0\nsinks=3\nsink=10,0,100,1\nsink=4,6,60,1\nsink=10,10,70,1\n",
+        b"slack=0\nwire=32\nsinks=3\nleaf=1,5\nleaf=2,5\nleaf=3,4\nnode=4,0,4,0\nnode=5,4,4,0\n",
+        alpha_1024ths,
+        beta_1024ths,
+        cap,
+    );
+}
+
+// The score of one sink of slack 7 at the end of a wire of 7.
+fn score_pin(alpha_1024ths: i64, beta_1024ths: i64, cap: i64) {
+    show_score(
+        b"root=0,0\nbranch=20\nwire=2,2\nneed=0\nsinks=1\nsink=3,4,21,1\n",
+        b"slack=7\nwire=7\nsinks=1\nleaf=1,0\n",
+        alpha_1024ths,
+        beta_1024ths,
+        cap,
+    );
+}
+
+// Request 8 of 02: -32, twice; zeros; 6, 7, 7 and -1/1024.
+fn show_scores() {
+    score_a(1024, 1024, 0);
+    score_a(0, 1024, 0);
+    score_a(1024, 0, 0);
+    score_a(0, 0, 0);
+    score_pin(1024, 1024, 8);
+    score_pin(1024, 0, 6);
+    score_pin(1024, 0, 7);
+    score_pin(1024, 0, 8);
+    score_pin(1, 1, 6);
+}
+
+// Slacks of -40, at both ends, and one too late: 14,0,0, also where A is 0; then one past each end of A, B and the cap: 14,0,0.
+fn show_score_ends() {
+    show_score(
+        b"root=0,0\nbranch=20\nwire=2,2\nneed=-40\nsinks=3\nsink=0,0,0,1\nsink=0,0,0,1\nsink=0,0,0,1\n",
+        b"slack=-40\nwire=0\nsinks=3\nleaf=1,5\nleaf=2,4\nleaf=3,5\nnode=4,0,0,0\nnode=5,4,0,0\n",
+        0,
+        1024,
+        0,
+    );
+    show_score(
+        b"root=0,0\nbranch=20\nwire=2,2\nneed=0\nsinks=1\nsink=0,0,-1000000000000,1\n",
+        b"slack=-1000000000000\nwire=0\nsinks=1\nleaf=1,0\n",
+        1024,
+        1024,
+        1_000_000_000_000,
+    );
+    show_score(
+        b"root=0,0\nbranch=20\nwire=2,2\nneed=0\nsinks=1\nsink=0,0,1000000000000000,1\n",
+        b"slack=1000000000000000\nwire=0\nsinks=1\nleaf=1,0\n",
+        1024,
+        1024,
+        1_000_000_000_000,
+    );
+    score_late(1024, 1024);
+    score_late(0, 0);
+    score_a(-1, 0, 0);
+    score_a(1025, 0, 0);
+    score_a(0, -1, 0);
+    score_a(0, 1025, 0);
+    score_a(0, 0, -1);
+    score_a(0, 0, 1_000_000_000_001);
+}
+
+fn score_late(alpha_1024ths: i64, beta_1024ths: i64) {
+    show_score(
+        b"root=0,0\nbranch=20\nwire=2,2\nneed=0\nsinks=1\nsink=0,0,-1000000000001,1\n",
+        b"slack=-1000000000001\nwire=0\nsinks=1\nleaf=1,0\n",
+        alpha_1024ths,
+        beta_1024ths,
+        0,
+    );
+}
+
+// Judge's refusals go before: 2,1,1, 11,2,1 and 12,2,2.
+fn show_score_refusals() {
+    show_score(b"", b"", -1, -1, -1);
+    show_score(
+        b"root=0,0\nbranch=20\nwire=2,2\nneed=0\nsinks=3\nsink=10,0,100,1\nsink=4,6,60,1\nsink=10,10,70,1\n",
+        b"slack=1\nwire=32\nsinks=3\nleaf=1,5\nleaf=2,5\nleaf=3,4\nnode=4,0,4,0\nnode=5,4,4,0\n",
+        -1,
+        -1,
+        -1,
+    );
+    show_score(
+        b"root=0,0\nbranch=20\nwire=2,2\nneed=0\nsinks=3\nsink=10,0,100,1\nsink=4,6,60,1\nsink=10,10,70,1\n",
+        b"slack=0\nwire=31\nsinks=3\nleaf=1,5\nleaf=2,5\nleaf=3,4\nnode=4,0,4,0\nnode=5,4,4,0\n",
+        -1,
+        -1,
+        -1,
+    );
+}
+
 fn main() {
     show_lines();
     show_positions();
@@ -345,4 +455,7 @@ fn main() {
     show_short_trees();
     show_weighted_trees();
     show_weights();
+    show_scores();
+    show_score_ends();
+    show_score_refusals();
 }

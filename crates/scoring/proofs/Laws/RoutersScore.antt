@@ -1,12 +1,12 @@
 -- What 02's request 8 promises of the router's score. Assumes nothing.
 use mathlib.Core.Path.{_≡_, refl, sym, ap, subst, _∙_}
-use mathlib.Core.Bool.{Bool, true, false}
+use mathlib.Core.Bool.{Bool, true, false, not}
 use mathlib.Core.List.{List}
 use Prim.Native.Nat.{ℕ}
 use native.Mathlib.Omega.{arith}
 use lib.Dec.{T}
 use lib.IntN.{ℤ, pos}
-use lib.Ieee.{binary64, round, toBits}
+use lib.Ieee.{Float, nan, inf, fin, binary64, round, toBits, isNan}
 use Rattle.quantities.specs.MinMax.{minℤ}
 use Rattle.quantities.specs.Inner.Linear.{whole}
 use Rattle.quantities.proofs.Laws.MinMax.{min-is}
@@ -26,7 +26,7 @@ use Rattle.operations.proofs.Laws.Judgements.{judged-in-range}
 use Rattle.operations.proofs.Laws.Refusing.{judge-refuses}
 use Rattle.scoring.specs.Binary64.{Is1024ths, of1024ths, plusZero}
 use Rattle.scoring.specs.Exact.{score1024ths, Exact}
-use Rattle.scoring.specs.Scores.{canScore, scored, scoreOf, scoreFigures}
+use Rattle.scoring.specs.Scores.{canScore, scored, scoreOf, scoreAnswer, scoreFigures}
 use Rattle.scoring.specs.RoutersScore.{CanScore, ScoreRefuses, ScoreFor, RoutersScore}
 use Rattle.scoring.specs.declared.score.ScoreAnswer.{ScoreAnswer}
 use Rattle.scoring.specs.declared.score.ScoreAnswer.the-variants.{Scored, ScoreRefused}
@@ -121,6 +121,21 @@ figures-one (Scored x) (Scored y) e = ap (λ f. Scored (f .score)) e
 figures-one (Scored x) (ScoreRefused f) e = absurd (omega (arith, numbered f, ap (λ r. r .number) e))
 figures-one (ScoreRefused f) (Scored y) e = absurd (omega (arith, numbered f, ap (λ r. r .number) e))
 figures-one (ScoreRefused f) (ScoreRefused g) e = ap ScoreRefused (told-one f g (λ i. record { number = e i .number; text = e i .text; line = e i .line }))
+
+-- ---- a score that is given is a number
+
+exact-number : (x : Float) (z : ℤ) → Is1024ths x z → T (not (isNan x))
+unfolding isNan
+exact-number nan z v = absurd v
+exact-number (inf s) z v = tt
+exact-number (fin s m e) z v = tt
+
+pub score-number : (net listing : List ℕ) (A B cap : ℤ) (x : Float) → Scored x ≡ scoreAnswer (scoreOf net listing A B cap) → T (not (isNan x))
+score-number net listing A B cap x e = go (scoreOf net listing A B cap) refl e
+  where
+    go : (o : Outcome ℤ) → scoreOf net listing A B cap ≡ o → Scored x ≡ scoreAnswer o → T (not (isNan x))
+    go (value z) h e = let same : x ≡ of1024ths z = cc in subst (λ y. T (not (isNan y))) (sym same) (exact-number (of1024ths z) z (score-exact net listing A B cap z h))
+    go (refused f) h e = absurd (let n : _≡_ {A = ℕ} 0 1 = cc in omega arith)
 
 pub routers-score : RoutersScore
 routers-score = record {
