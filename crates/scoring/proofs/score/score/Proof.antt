@@ -34,8 +34,8 @@ score-measures-requires c κs =
 
 returns : tie.Need-returns
 returns c =
-    let a = c .before .before .before .before .before .before .args in
-    sym (ap scoreAnswer (score-refused (a .net .now) (a .listing .now) (a .alpha-1024ths) (a .beta-1024ths) (a .cap) (c .before .refusal .given .0 .0) (measured-refused _ _ (sym (c .before .refusal .given .1) ∙ c .before .before .before .judge-measures .ensures))))
+    let s = c .before .before .before .before .before .before in
+    sym (ap scoreAnswer (score-refused (s .args .net .now) (s .args .listing .now) (s .args .alpha-1024ths) (s .args .beta-1024ths) (s .args .cap) (c .before .refusal .given .0 .0) (measured-refused _ _ (sym (c .before .refusal .given .1) ∙ c .before .before .before .judge-measures .ensures))))
 
 returns-2 : tie.Need-returns-2
 returns-2 c =
@@ -48,11 +48,4 @@ returns-2 c =
 
 pub score-spec : {M : Type 1} → statement M
 score-spec =
-    tie.close
-    (tie.spec
-    judge-measures-requires
-    enum-known-refusal
-    enum-known-slack
-    score-measures-requires
-    returns
-    returns-2)
+    tie.close (tie.spec judge-measures-requires enum-known-refusal enum-known-slack score-measures-requires returns returns-2)

@@ -12,7 +12,7 @@ use Rattle.scoring.proofs.weights.Weights.of.Statement.{statement}
 use Rattle.scoring.proofs.weights.Weights.of.Tie as tie
 
 int-to-float-one : tie.Need-int-to-float-one
-int-to-float-one c = castable (pos parts) (omega arith)
+int-to-float-one c = castable _ (omega arith)
 
 int-to-float-a : tie.Need-int-to-float-a
 int-to-float-a c = let s = c .before in subst (λ z. T (inFloat binary64 z)) (sym (toZ-ofZ (s .fits .alpha-1024ths))) (weight-castable (s .args .alpha-1024ths) (s .pre .0))
