@@ -1,6 +1,7 @@
 //! The worked nets of docs/FORMAT.md: their texts are what the calls give.
 
-use repeater_tree::{judge, plan, plan_short, plan_weighted, Plan, Refusal, LISTING_LENGTH};
+use repeater_tree::{judge, plan, plan_short, plan_weighted, score};
+use repeater_tree::{Plan, Refusal, CAP_LIMIT, LISTING_LENGTH};
 
 const PAGE: &str = include_str!("../../../docs/FORMAT.md");
 
@@ -64,4 +65,35 @@ fn gives(at: usize, planner: fn(&[u8], &mut [u8]) -> Result<Plan, Refusal>) {
     let mut out = [0; LISTING_LENGTH];
     let planned = planner(net.as_bytes(), &mut out).unwrap();
     assert_eq!(&out[..planned.bytes], listing.as_bytes());
+}
+
+/// The rows of the section's last table: A, B, and the scores of two trees of
+/// one net with a cap of 0.
+#[test]
+fn the_page_tells_what_scores_are() {
+    let blocks = blocks();
+    let net = blocks[5].as_bytes();
+    let mut first = [0; LISTING_LENGTH];
+    let planned = plan(net, &mut first).unwrap();
+    let trees = [&first[..planned.bytes], blocks[6].as_bytes()];
+    let (_, table) = PAGE.split_once("\n### Scores\n").expect("the scores");
+    let rows: Vec<Vec<f64>> = table.lines().filter_map(numbers).collect();
+    assert_eq!(rows.len(), 5);
+    for row in rows {
+        for (tree, told) in trees.iter().zip(&row[2..]) {
+            let found = score(net, tree, row[0] as i64, row[1] as i64, 0).unwrap();
+            assert_eq!(found.to_bits(), told.to_bits());
+        }
+    }
+    let (net, listing) = (blocks[3].as_bytes(), blocks[4].as_bytes());
+    for (cap, told) in [(20, -6.0), (30, 4.0), (CAP_LIMIT, 4.0)] {
+        assert_eq!(score(net, listing, 1024, 1024, cap), Ok(told));
+    }
+}
+
+/// The four numbers that a row begins with.
+fn numbers(line: &str) -> Option<Vec<f64>> {
+    let cells = line.strip_prefix("| ")?.split(" | ").take(4);
+    let numbers: Option<Vec<f64>> = cells.map(|cell| cell.parse().ok()).collect();
+    numbers.filter(|row| row.len() == 4)
 }

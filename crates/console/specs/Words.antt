@@ -40,7 +40,7 @@ words (FarPin line) = bytes "the sink is too far from the root"
 -- 02, request 8: "if A, B or the cap is out of range or min(..) is below -1,000,000,000,000"
 words NotScored = bytes "alpha, beta or the cap is out of range, or the slack too low"
 
--- "Text 1 is the net, 2 the listing, 0 neither.": then it is the output
+-- "Text 1 is the net, 2 the listing, 0 neither.": then it is the output, of which 6 tells (14, the other of text 0, is a score's, and no program scores)
 abbrev pub textName : List ℕ → List ℕ → ℕ → List ℕ
 textName net listing zero = bytes "output"
 textName net listing (suc zero) = net

@@ -20,7 +20,7 @@ use Rattle.scoring.specs.Scores.{scoreOf, scoreFigures}
 use Rattle.scoring.specs.declared.score.ScoreAnswer.{ScoreAnswer}
 
 -- nothing is "out of range", and min(..) is not "below -1,000,000,000,000"
-pub record CanScore (A B cap slack : ℤ) : Type 0 where
+pub record ScoreInRange (A B cap slack : ℤ) : Type 0 where
   pub alpha : FromZero parts A
   pub beta : FromZero parts B
   pub cap-range : FromZero capLimit cap
@@ -29,14 +29,14 @@ pub record CanScore (A B cap slack : ℤ) : Type 0 where
 -- why no score is given: judge refuses, or it accepts and 14
 pub data ScoreRefuses (net listing : List ℕ) (A B cap : ℤ) : Refusal → Type 0 where
   by-judge : {e : Refusal} → JudgeRefuses net listing e → ScoreRefuses net listing A B cap e
-  not-scored : (j : Judgement) → judgeOf net listing ≡ value j → (CanScore A B cap (j .slack) → ⊥) → ScoreRefuses net listing A B cap NotScored
+  not-scored : (j : Judgement) → judgeOf net listing ≡ value j → (ScoreInRange A B cap (j .slack) → ⊥) → ScoreRefuses net listing A B cap NotScored
 
 -- of a listing that judge accepts, with these measures
 pub record ScoreFor (net listing : List ℕ) (j : Judgement) (A B cap : ℤ) : Type 0 where
   -- the score is "A × min(..) - B × wire" 1024ths
-  pub scores : CanScore A B cap (j .slack) → scoreOf net listing A B cap ≡ value (score1024ths A B (minℤ (j .slack) cap) (j .wire))
+  pub scores : ScoreInRange A B cap (j .slack) → scoreOf net listing A B cap ≡ value (score1024ths A B (minℤ (j .slack) cap) (j .wire))
   -- "The binary64 score must be exact", and so is each step to it
-  pub exact : CanScore A B cap (j .slack) → Exact A B (minℤ (j .slack) cap) (j .wire)
+  pub exact : ScoreInRange A B cap (j .slack) → Exact A B (minℤ (j .slack) cap) (j .wire)
 
 pub record RoutersScore : Type 0 where
   pub accepted : (net listing : List ℕ) (j : Judgement) → judgeOf net listing ≡ value j → (A B cap : ℤ) → ScoreFor net listing j A B cap

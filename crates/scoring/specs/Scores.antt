@@ -23,12 +23,12 @@ abbrev pub isFromZero : ℕ → ℤ → Bool
 isFromZero k z = leZ (pos 0) z && leZ z (pos k)
 
 -- "A and B from 0 to 1,024; the cap is a whole number from 0 to 1,000,000,000,000"; m, which is min(..), is not "below -1,000,000,000,000"
-unfoldable pub canScore : ℤ → ℤ → ℤ → ℤ → Bool
-canScore A B cap m = isFromZero parts A && (isFromZero parts B && (isFromZero capLimit cap && leZ (negℤ (pos lateLimit)) m))
+unfoldable pub isScored : ℤ → ℤ → ℤ → ℤ → Bool
+isScored A B cap m = isFromZero parts A && (isFromZero parts B && (isFromZero capLimit cap && leZ (negℤ (pos lateLimit)) m))
 
 -- the score in 1024ths of what goes to min(..), or 14
 abbrev pub scoredAt : ℤ → ℤ → ℤ → ℤ → ℕ → Outcome ℤ
-scoredAt A B cap m wire = elim (canScore A B cap m) [ true ↦ value (score1024ths A B m wire) | false ↦ refused NotScored ]
+scoredAt A B cap m wire = elim (isScored A B cap m) [ true ↦ value (score1024ths A B m wire) | false ↦ refused NotScored ]
 
 -- "min(worst slack, cap)"
 abbrev pub scored : ℤ → ℤ → ℤ → ℤ → ℕ → Outcome ℤ

@@ -3,7 +3,7 @@ ghost use mathlib.Core.Path.{_≡_};
 ghost use Prim.Native.Nat.{_≤_};
 ghost use Rattle.tree.specs.Limits.{wireLimit};
 ghost use Rattle.scoring.specs.Limits.{capLimit};
-ghost use Rattle.scoring.specs.Scores.{isFromZero, canScore, scored, scoreOf, scoreAnswer};
+ghost use Rattle.scoring.specs.Scores.{isFromZero, isScored, scored, scoreOf, scoreAnswer};
 use crate::limits::CAP_LIMIT;
 use crate::limits::LATE_LIMIT;
 use crate::limits::PARTS;
@@ -30,8 +30,8 @@ fn is_from_zero(limit: u64, z: i64) -> bool
 }
 
 // Whether a score is given, of the lesser of slack and cap.
-fn can_score(alpha_1024ths: i64, beta_1024ths: i64, cap: i64, capped: Time) -> bool
-    ensures { λ r. ⌜ r ≡ canScore «alpha_1024ths» «beta_1024ths» cap (capped .0) ⌝ }
+fn is_scored(alpha_1024ths: i64, beta_1024ths: i64, cap: i64, capped: Time) -> bool
+    ensures { λ r. ⌜ r ≡ isScored «alpha_1024ths» «beta_1024ths» cap (capped .0) ⌝ }
 {
     if !is_from_zero(PARTS, alpha_1024ths) {
         return false;
@@ -57,7 +57,7 @@ fn score_measures(
     ensures { λ r. ⌜ r ≡ scoreAnswer (scored «alpha_1024ths» «beta_1024ths» cap (slack .0) (wire .0)) ⌝ }
 {
     let capped = slack.least(Time::of(cap));
-    if !can_score(alpha_1024ths, beta_1024ths, cap, capped) {
+    if !is_scored(alpha_1024ths, beta_1024ths, cap, capped) {
         return ScoreAnswer::ScoreRefused {
             refusal: Refusal::NotScored,
         };

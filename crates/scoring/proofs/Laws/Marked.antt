@@ -23,7 +23,7 @@ use Rattle.operations.specs.Answers.{Judgement, judgeOf}
 use Rattle.operations.specs.Marked.{textA, listingA, textThree, listingThree, rangeNet}
 use Rattle.operations.proofs.Laws.Marked.{marked, judged-over}
 use Rattle.scoring.specs.Binary64.{of1024ths}
-use Rattle.scoring.specs.Scores.{canScore, scored, scoreOf}
+use Rattle.scoring.specs.Scores.{isScored, scored, scoreOf}
 use Rattle.scoring.specs.Marked.{textPin, listingPin, textAt, listingAt, Marked}
 use Rattle.scoring.proofs.Laws.Scores.{score-refused, score-judged}
 
@@ -68,7 +68,7 @@ abbrev pin : (alpha beta cap : ℤ) (o : Outcome ℤ) → scored alpha beta cap 
 pin = over textPin listingPin (record { slack = pos 7; wire = 7; best = pos 7 }) pin-judged
 
 pub marked-scores : Marked
-unfolding canScore minℤ of1024ths round toBits
+unfolding isScored minℤ of1024ths round toBits
 marked-scores = record {
   A-both = (A _ _ _ _ refl, refl);
   A-beta = (A _ _ _ _ refl, refl);

@@ -26,8 +26,8 @@ use Rattle.operations.proofs.Laws.Judgements.{judged-in-range}
 use Rattle.operations.proofs.Laws.Refusing.{judge-refuses}
 use Rattle.scoring.specs.Binary64.{Is1024ths, of1024ths, plusZero}
 use Rattle.scoring.specs.Exact.{score1024ths, Exact}
-use Rattle.scoring.specs.Scores.{canScore, scored, scoreOf, scoreAnswer, scoreFigures}
-use Rattle.scoring.specs.RoutersScore.{CanScore, ScoreRefuses, ScoreFor, RoutersScore}
+use Rattle.scoring.specs.Scores.{isScored, scored, scoreOf, scoreAnswer, scoreFigures}
+use Rattle.scoring.specs.RoutersScore.{ScoreInRange, ScoreRefuses, ScoreFor, RoutersScore}
 use Rattle.scoring.specs.declared.score.ScoreAnswer.{ScoreAnswer}
 use Rattle.scoring.specs.declared.score.ScoreAnswer.the-variants.{Scored, ScoreRefused}
 use Rattle.scoring.proofs.Laws.Exact.{exactly}
@@ -36,19 +36,19 @@ use Rattle.scoring.proofs.Laws.Scores.{can-only, can-if, scored-no, sco
 -- ---- the test is for the ranges
 
 module _ (A B cap slack : ℤ) where
-  granted : CanScore A B cap slack → canScore A B cap (minℤ slack cap) ≡ true
+  granted : ScoreInRange A B cap slack → isScored A B cap (minℤ slack cap) ≡ true
   granted c = can-if A B cap (minℤ slack cap) (c .alpha, c .beta, c .cap-range, c .late)
 
-  can : canScore A B cap (minℤ slack cap) ≡ true → CanScore A B cap slack
+  can : isScored A B cap (minℤ slack cap) ≡ true → ScoreInRange A B cap slack
   can e = let h = can-only A B cap (minℤ slack cap) e in record { alpha = h .0; beta = h .1; cap-range = h .2; late = h .3 }
 
   -- the two ways that a score can end
   scored-cases : {C : Type 0} (wire : ℕ) (o : Outcome ℤ) → scored A B cap slack wire ≡ o
-      → (CanScore A B cap slack → o ≡ value (score1024ths A B (minℤ slack cap) wire) → C)
-      → ((CanScore A B cap slack → ⊥) → o ≡ refused NotScored → C) → C
-  scored-cases {C = C} wire o h given turned = by (canScore A B cap (minℤ slack cap)) refl
+      → (ScoreInRange A B cap slack → o ≡ value (score1024ths A B (minℤ slack cap) wire) → C)
+      → ((ScoreInRange A B cap slack → ⊥) → o ≡ refused NotScored → C) → C
+  scored-cases {C = C} wire o h given turned = by (isScored A B cap (minℤ slack cap)) refl
     where
-      by : (t : Bool) → canScore A B cap (minℤ slack cap) ≡ t → C
+      by : (t : Bool) → isScored A B cap (minℤ slack cap) ≡ t → C
       by true e = given (can e) (sym h ∙ scored-yes A B cap (minℤ slack cap) wire e)
       by false e = turned (λ c. absurd (differ (sym (granted c) ∙ e))) (sym h ∙ scored-no A B cap (minℤ slack cap) wire e)
         where
@@ -58,7 +58,7 @@ module _ (A B cap slack : ℤ) where
 -- ---- a listing that judge accepts
 
 module _ (net listing : List ℕ) (j : Judgement) (judged : judgeOf net listing ≡ value j) (A B cap : ℤ) where
-  exact-steps : CanScore A B cap (j .slack) → Exact A B (minℤ (j .slack) cap) (j .wire)
+  exact-steps : ScoreInRange A B cap (j .slack) → Exact A B (minℤ (j .slack) cap) (j .wire)
   exact-steps c =
       exactly A B (minℤ (j .slack) cap) (j .wire) (c .alpha) (c .beta) (c .late, omega (arith, whole, c .cap-range, min-is (j .slack) cap)) (judged-in-range net listing j judged .1)
 
@@ -74,8 +74,8 @@ module _ (net listing : List ℕ) (A B cap : ℤ) where
   -- judge refuses, or the score is given, or 14
   score-cases : {C : Type 0} (o : Outcome ℤ) → scoreOf net listing A B cap ≡ o
       → ((e : Refusal) → judgeOf net listing ≡ refused e → o ≡ refused e → C)
-      → ((j : Judgement) → judgeOf net listing ≡ value j → CanScore A B cap (j .slack) → o ≡ value (score1024ths A B (minℤ (j .slack) cap) (j .wire)) → C)
-      → ((j : Judgement) → judgeOf net listing ≡ value j → (CanScore A B cap (j .slack) → ⊥) → o ≡ refused NotScored → C) → C
+      → ((j : Judgement) → judgeOf net listing ≡ value j → ScoreInRange A B cap (j .slack) → o ≡ value (score1024ths A B (minℤ (j .slack) cap) (j .wire)) → C)
+      → ((j : Judgement) → judgeOf net listing ≡ value j → (ScoreInRange A B cap (j .slack) → ⊥) → o ≡ refused NotScored → C) → C
   score-cases {C = C} o h by-judge given turned = go (judgeOf net listing) refl
     where
       go : (r : Outcome Judgement) → judgeOf net listing ≡ r → C

@@ -15,7 +15,7 @@ use Rattle.formats.proofs.Laws.Lines.Outcomes.{then-value, then-refused}
 use Rattle.operations.specs.Answers.{Judgement, judgeOf}
 use Rattle.scoring.specs.Limits.{parts, capLimit, lateLimit, FromZero}
 use Rattle.scoring.specs.Exact.{score1024ths}
-use Rattle.scoring.specs.Scores.{isFromZero, canScore, scoredAt, scored, scoreOf}
+use Rattle.scoring.specs.Scores.{isFromZero, isScored, scoredAt, scored, scoreOf}
 
 -- ---- tests one after the other
 
@@ -74,8 +74,8 @@ module _ (A B cap m : ℤ) where
   abbrev pub InRanges : Type 0
   InRanges = FromZero parts A × FromZero parts B × FromZero capLimit cap × (negℤ (pos lateLimit) ≤ℤ m)
 
-  pub can-only : canScore A B cap m ≡ true → InRanges
-  unfolding canScore
+  pub can-only : isScored A B cap m ≡ true → InRanges
+  unfolding isScored
   can-only e =
       let a = both (isFromZero parts A) _ e in
       let b = both (isFromZero parts B) _ (a .1) in
@@ -83,38 +83,38 @@ module _ (A B cap m : ℤ) where
       let d = c .1 in
       (from-zero-only parts A (a .0), from-zero-only parts B (b .0), from-zero-only capLimit cap (c .0), omega (arith, whole))
 
-  pub can-if : InRanges → canScore A B cap m ≡ true
-  unfolding canScore
+  pub can-if : InRanges → isScored A B cap m ≡ true
+  unfolding isScored
   can-if h = λ i. from-zero-if parts A (h .0) i && (from-zero-if parts B (h .1) i && (from-zero-if capLimit cap (h .2) i && leZ-is {a = negℤ (pos lateLimit)} {b = m} (h .3) i))
 
   -- by one test after the other
-  pub no-alpha : not (isFromZero parts A) ≡ true → false ≡ canScore A B cap m
-  unfolding canScore
+  pub no-alpha : not (isFromZero parts A) ≡ true → false ≡ isScored A B cap m
+  unfolding isScored
   no-alpha e = stopped (isFromZero parts A) (isFromZero parts B && (isFromZero capLimit cap && leZ (negℤ (pos lateLimit)) m)) e
 
   module _ (alpha : not (isFromZero parts A) ≡ false) where
-    alpha-passed : isFromZero parts B && (isFromZero capLimit cap && leZ (negℤ (pos lateLimit)) m) ≡ canScore A B cap m
-    unfolding canScore
+    alpha-passed : isFromZero parts B && (isFromZero capLimit cap && leZ (negℤ (pos lateLimit)) m) ≡ isScored A B cap m
+    unfolding isScored
     alpha-passed = passed (isFromZero parts A) (isFromZero parts B && (isFromZero capLimit cap && leZ (negℤ (pos lateLimit)) m)) alpha
 
-    pub no-beta : not (isFromZero parts B) ≡ true → false ≡ canScore A B cap m
+    pub no-beta : not (isFromZero parts B) ≡ true → false ≡ isScored A B cap m
     no-beta e = stopped (isFromZero parts B) (isFromZero capLimit cap && leZ (negℤ (pos lateLimit)) m) e ∙ alpha-passed
 
     module _ (beta : not (isFromZero parts B) ≡ false) where
-      beta-passed : isFromZero capLimit cap && leZ (negℤ (pos lateLimit)) m ≡ canScore A B cap m
+      beta-passed : isFromZero capLimit cap && leZ (negℤ (pos lateLimit)) m ≡ isScored A B cap m
       beta-passed = passed (isFromZero parts B) (isFromZero capLimit cap && leZ (negℤ (pos lateLimit)) m) beta ∙ alpha-passed
 
-      pub no-cap : not (isFromZero capLimit cap) ≡ true → false ≡ canScore A B cap m
+      pub no-cap : not (isFromZero capLimit cap) ≡ true → false ≡ isScored A B cap m
       no-cap e = stopped (isFromZero capLimit cap) (leZ (negℤ (pos lateLimit)) m) e ∙ beta-passed
 
-      pub by-slack : not (isFromZero capLimit cap) ≡ false → not (ltZ m (negℤ (pos lateLimit))) ≡ canScore A B cap m
+      pub by-slack : not (isFromZero capLimit cap) ≡ false → not (ltZ m (negℤ (pos lateLimit))) ≡ isScored A B cap m
       by-slack e = not-below m (negℤ (pos lateLimit)) ∙ passed (isFromZero capLimit cap) (leZ (negℤ (pos lateLimit)) m) e ∙ beta-passed
 
   -- by the value of all four
-  pub scored-no : (wire : ℕ) → canScore A B cap m ≡ false → scoredAt A B cap m wire ≡ refused NotScored
+  pub scored-no : (wire : ℕ) → isScored A B cap m ≡ false → scoredAt A B cap m wire ≡ refused NotScored
   scored-no wire e = rw (scoredAt, e)
 
-  pub scored-yes : (wire : ℕ) → canScore A B cap m ≡ true → scoredAt A B cap m wire ≡ value (score1024ths A B m wire)
+  pub scored-yes : (wire : ℕ) → isScored A B cap m ≡ true → scoredAt A B cap m wire ≡ value (score1024ths A B m wire)
   scored-yes wire e = rw (scoredAt, e)
 
 -- ---- of the two texts

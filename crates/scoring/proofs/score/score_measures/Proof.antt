@@ -10,7 +10,7 @@ use Rattle.quantities.proofs.Laws.MinMax.{min-is}
 use Rattle.scoring.specs.Limits.{parts, FromZero}
 use Rattle.scoring.specs.Binary64.{of1024ths}
 use Rattle.scoring.specs.Exact.{score1024ths}
-use Rattle.scoring.specs.Scores.{canScore, scoreAnswer}
+use Rattle.scoring.specs.Scores.{isScored, scoreAnswer}
 use Rattle.scoring.specs.Inner.Weighing.{Scorable}
 use Rattle.scoring.specs.declared.score.ScoreAnswer.the-variants.{Scored}
 use Rattle.scoring.proofs.Laws.Scores.{InRanges, can-only, scored-no, scored-yes, not-true, not-false}
@@ -24,18 +24,18 @@ of-requires c κs = search needs
 least-requires : tie.Need-least-requires
 least-requires c κs = search needs
 
-can-score-requires : tie.Need-can-score-requires
-can-score-requires c κs = search needs
+is-scored-requires : tie.Need-is-scored-requires
+is-scored-requires c κs = search needs
 
 -- min(worst slack, cap)
 least-is : (c : tie.After-least) → c .least .result .0 ≡ minℤ (c .before .before .args .slack .0) (c .before .before .args .cap)
 least-is c = c .least .ensures ∙ ap (minℤ (c .before .before .args .slack .0)) (c .before .of .ensures ∙ toZ-ofZ (c .before .before .fits .cap))
 
 -- what the test tells
-tested : (c : tie.After-can-score) → let s = c .before .before .before in c .can-score .result ≡ canScore (s .args .alpha-1024ths) (s .args .beta-1024ths) (s .args .cap) (minℤ (s .args .slack .0) (s .args .cap))
+tested : (c : tie.After-is-scored) → let s = c .before .before .before in c .is-scored .result ≡ isScored (s .args .alpha-1024ths) (s .args .beta-1024ths) (s .args .cap) (minℤ (s .args .slack .0) (s .args .cap))
 tested c =
     let s = c .before .before .before in
-    c .can-score .ensures ∙ (λ i. canScore (toZ-ofZ (s .fits .alpha-1024ths) i) (toZ-ofZ (s .fits .beta-1024ths) i) (toZ-ofZ (s .fits .cap) i) (least-is (c .before) i))
+    c .is-scored .ensures ∙ (λ i. isScored (toZ-ofZ (s .fits .alpha-1024ths) i) (toZ-ofZ (s .fits .beta-1024ths) i) (toZ-ofZ (s .fits .cap) i) (least-is (c .before) i))
 
 returns : tie.Need-returns
 returns c =
@@ -77,7 +77,7 @@ score-measures-spec =
     (tie.spec
     of-requires
     least-requires
-    can-score-requires
+    is-scored-requires
     returns
     of-requires-2
     score-requires

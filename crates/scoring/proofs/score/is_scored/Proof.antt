@@ -7,8 +7,8 @@ use Rattle.scoring.specs.Limits.{parts, capLimit}
 use Rattle.scoring.specs.Scores.{isFromZero}
 use Rattle.scoring.proofs.Laws.Scores.{no-alpha, no-beta, no-cap, by-slack}
 use borrow.Author.Needs.{needs}
-use Rattle.scoring.proofs.score.can_score.Statement.{statement}
-use Rattle.scoring.proofs.score.can_score.Tie as tie
+use Rattle.scoring.proofs.score.is_scored.Statement.{statement}
+use Rattle.scoring.proofs.score.is_scored.Tie as tie
 
 is-from-zero-requires : tie.Need-is-from-zero-requires
 is-from-zero-requires c κs = search needs
@@ -69,8 +69,8 @@ returns-4 c =
     ∙ by-slack (a .alpha-1024ths) (a .beta-1024ths) (a .cap) (a .capped .0) (alpha-passed (c .before .before .before .before .before .before)) (beta-passed (c .before .before .before .before))
     (ap not (sym (cap-tested (c .before .before .before))) ∙ c .before .before .if3 .left)
 
-pub can-score-spec : {M : Type 1} → statement M
-can-score-spec =
+pub is-scored-spec : {M : Type 1} → statement M
+is-scored-spec =
     tie.close
     (tie.spec
     is-from-zero-requires
