@@ -7,7 +7,6 @@ use lib.IntN.{ℤ, pos, negℤ}
 use lib.Signed.{_≤ℤ_}
 use lib.Ieee.{binary64, toBits}
 use Rattle.quantities.specs.MinMax.{minℤ}
-use Rattle.formats.specs.Refusals.{told}
 use Rattle.formats.specs.Outcome.{value, refused}
 use Rattle.formats.specs.declared.refusal.Refusal.{Refusal}
 use Rattle.formats.specs.declared.refusal.Refusal.the-variants.{NotScored}

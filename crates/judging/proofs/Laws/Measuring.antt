@@ -20,23 +20,24 @@ use Rattle.operations.specs.Answers.{Judgement, judgeAnswer}
 use Rattle.operations.specs.Inner.Acceptance.{judgeNet}
 use Rattle.operations.specs.declared.accept.Acceptance.{Acceptance}
 use Rattle.operations.specs.declared.accept.Acceptance.the-variants.{AcceptedListing, NotAccepted}
+use Rattle.operations.specs.declared.answers.JudgeAnswer.{JudgeAnswer}
 use Rattle.operations.specs.declared.answers.JudgeAnswer.the-variants.{Judged, JudgeRefused}
 use Rattle.operations.proofs.Laws.Accepting.{accepted-true}
 use Rattle.judging.specs.Inner.Measuring.{answerFor, measuresAnswer}
 
 -- a refusal is told either way
-pub refused-for : (wants : Bool) (o : Outcome Judgement) (e : Refusal) → o ≡ refused e → JudgeRefused e ≡ answerFor wants o
+pub refused-for : (wanted : Bool) (o : Outcome Judgement) (e : Refusal) → o ≡ refused e → JudgeRefused e ≡ answerFor wanted o
 unfolding answerFor
 refused-for true o e h = sym (ap (answerFor true) h)
 refused-for false o e h = sym (ap (answerFor false) h)
 
 module _ (N : Net) (text : List ℕ) where
-  pub judged-refused : (wants : Bool) (e : Refusal) → refused e ≡ acceptListing N text → JudgeRefused e ≡ answerFor wants (judgeNet N text)
-  judged-refused wants e h = refused-for wants (judgeNet N text) e (then-refused _ (sym h))
+  pub judged-refused : (wanted : Bool) (e : Refusal) → refused e ≡ acceptListing N text → JudgeRefused e ≡ answerFor wanted (judgeNet N text)
+  judged-refused wanted e h = refused-for wanted (judgeNet N text) e (then-refused _ (sym h))
 
   module _ (G : Listing) (h : value G ≡ acceptListing N text) where
     -- what is stated is true
-    pub judged-measures : (wants : Bool) → not wants ≡ true → (none : Time) → none .0 ≡ pos 0 → Judged (record { 0 = G .slack }) (record { 0 = G .wire }) none ≡ answerFor wants (judgeNet N text)
+    pub judged-measures : (wanted : Bool) → not wanted ≡ true → (none : Time) → none .0 ≡ pos 0 → Judged (record { 0 = G .slack }) (record { 0 = G .wire }) none ≡ answerFor wanted (judgeNet N text)
     unfolding answerFor
     judged-measures true e none z = absurd (subst T (sym e) tt)
     judged-measures false e none z =
@@ -44,8 +45,8 @@ module _ (N : Net) (text : List ℕ) where
         (λ i. Judged (record { 0 = t .0 i }) (record { 0 = t .1 i }) (record { 0 = z i })) ∙ sym (ap (answerFor false) (then-value _ (sym h)))
 
     -- and s is the Kraft maximum
-    pub judged-value : (wants : Bool) → not wants ≡ false → 1 ≤ N .branch → 1 ≤ size N → (s : ℤ) → IsKraftMaximum (N .branch) (ownSlacks N) s
-        → Judged (record { 0 = G .slack }) (record { 0 = G .wire }) (record { 0 = s }) ≡ answerFor wants (judgeNet N text)
+    pub judged-value : (wanted : Bool) → not wanted ≡ false → 1 ≤ N .branch → 1 ≤ size N → (s : ℤ) → IsKraftMaximum (N .branch) (ownSlacks N) s
+        → Judged (record { 0 = G .slack }) (record { 0 = G .wire }) (record { 0 = s }) ≡ answerFor wanted (judgeNet N text)
     unfolding answerFor
     judged-value false e c1 n1 s m = absurd (subst T e tt)
     judged-value true e c1 n1 s m =
@@ -60,15 +61,14 @@ unfolding answerFor
 judged-full o = refl
 
 -- what is answered without the Kraft maximum tells the measures, or the refusal
-pub measures-told : (o : Outcome Judgement) (slack : Time) (wire : Length) (best : Time) → Judged slack wire best ≡ answerFor false o → AcceptedListing slack wire ≡ measuresAnswer o
-unfolding answerFor
-measures-told (value j) slack wire best h = λ i. elim (h i) [ Judged s w b ↦ AcceptedListing s w | JudgeRefused e ↦ NotAccepted e ]
-measures-told (refused e) slack wire best h = λ i. elim (h i) [ Judged s w b ↦ AcceptedListing s w | JudgeRefused e ↦ NotAccepted e ]
+abbrev pub measuresOf : JudgeAnswer → Acceptance
+measuresOf (Judged slack wire best) = AcceptedListing slack wire
+measuresOf (JudgeRefused e) = NotAccepted e
 
-pub refusal-told : (o : Outcome Judgement) (e : Refusal) → JudgeRefused e ≡ answerFor false o → NotAccepted e ≡ measuresAnswer o
+pub measures-told : (o : Outcome Judgement) → measuresOf (answerFor false o) ≡ measuresAnswer o
 unfolding answerFor
-refusal-told (value j) e h = λ i. elim (h i) [ Judged s w b ↦ AcceptedListing s w | JudgeRefused e ↦ NotAccepted e ]
-refusal-told (refused d) e h = λ i. elim (h i) [ Judged s w b ↦ AcceptedListing s w | JudgeRefused e ↦ NotAccepted e ]
+measures-told (value j) = refl
+measures-told (refused e) = refl
 
 -- what was judged, where the measures are told
 pub measured-value : (o : Outcome Judgement) (slack : Time) (wire : Length) → AcceptedListing slack wire ≡ measuresAnswer o → (j : Judgement) × ((o ≡ value j) × (slack .0 ≡ j .slack) × (wire .0 ≡ j .wire))

@@ -9,13 +9,10 @@ use native.Mathlib.Omega.{arith}
 use lib.IntN.{ℤ}
 use lib.Signed.{leZ}
 use lib.Dec.{eqb}
-use Rattle.tree.specs.Net.{Net, size, ownSlacks}
+use Rattle.tree.specs.Net.{Net, size}
 use Rattle.tree.specs.Measures.{worstSlack, wireLength}
-use Rattle.tree.specs.Kraft.{IsKraftMaximum, kraftMaximum}
 use Rattle.tree.specs.Defects.{wrongChildren, unreached}
 use Rattle.tree.proofs.Laws.Trees.Defects.{unreached-lowest, wrong-lowest}
-use Rattle.tree.proofs.Laws.Kraft.Maximum.{maximum-one}
-use Rattle.tree.proofs.Laws.Planning.AnyTieRule.{maximum-of-net}
 use Rattle.formats.specs.Outcome.{Outcome, value, refused, andThen}
 use Rattle.formats.specs.Reading.Nets.{readNet}
 use Rattle.formats.specs.ListingText.{Listing}
@@ -24,10 +21,8 @@ use Rattle.formats.specs.declared.refusal.Refusal.{Refusal}
 use Rattle.formats.specs.declared.refusal.Refusal.the-variants.{WrongChildren, NotReached, OtherSlack, OtherWire}
 use Rattle.formats.proofs.Laws.Lines.Outcomes.{then-then, then-value, then-refused}
 use Rattle.operations.specs.Accepting.{vertexLine, unlessFound, trueOnly, acceptTree, acceptListing, accepted}
-use Rattle.operations.specs.Answers.{judgement, judgeOf, judgeAnswer}
+use Rattle.operations.specs.Answers.{judgement, judgeOf}
 use Rattle.operations.specs.Inner.Acceptance.{judgeNet}
-use Rattle.operations.proofs.Laws.Accepting.{accepted-true}
-use Rattle.operations.specs.declared.answers.JudgeAnswer.the-variants.{Judged, JudgeRefused}
 
 pub line-below : (v : ℕ) → (v ≡ 0 → ⊥) → v + 3 ≡ vertexLine v
 line-below zero h = absurd (h refl)

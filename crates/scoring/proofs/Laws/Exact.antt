@@ -5,7 +5,7 @@ use Prim.Native.Nat.{ℕ, zero, suc, _+_, _*_, _^_, _≤_, _<_}
 use native.Mathlib.Omega.{arith}
 use native.Mathlib.Nat.{mul-le-mul}
 use lib.Dec.{T}
-use lib.IntN.{ℤ, pos, negsuc, negℤ, natAbs, _*ℤ_}
+use lib.IntN.{ℤ, pos, negsuc, natAbs, _*ℤ_}
 use lib.Ieee.{Float, binary64, unlike, add, mul, ofInt}
 use lib.Ieee.Exact.{HasValue}
 use Rattle.quantities.specs.Inner.Linear.{up, dn, whole, -is, natAbs-is}

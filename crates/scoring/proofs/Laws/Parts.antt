@@ -1,5 +1,5 @@
 -- Numbers of the form ±n / 1,024 in binary64: below 2 ^ 53 none is rounded, a weight's quotient is one, and so is its product with a whole number.
-use mathlib.Core.Path.{_≡_, refl, sym, ap, ap₂, subst, _∙_}
+use mathlib.Core.Path.{_≡_, refl, sym, ap, ap₂, _∙_}
 use mathlib.Core.Bool.{Bool, true, false}
 use Prim.Native.Nat.{ℕ, zero, suc, _*_, _^_, _≤_, _<_}
 use native.Mathlib.Omega.{arith}
@@ -13,7 +13,7 @@ use lib.Ieee.Exact.{HasValue, round-exact}
 use lib.Ieee.Scale.{round-same}
 use lib.Ieee.Back.{round-whole}
 use Rattle.scoring.specs.Limits.{parts}
-use Rattle.scoring.specs.Binary64.{signed, Is1024ths, isNegative, of1024ths}
+use Rattle.scoring.specs.Binary64.{signed, Is1024ths, isNegative}
 
 -- ±n / 1,024
 abbrev pub nth : Bool → ℕ → Float

@@ -1,11 +1,10 @@
 -- Sums and differences of numbers ±n / 1,024 in binary64: each is such a number again, and minus zero comes of two minus signs only.
-use mathlib.Core.Path.{_≡_, ap₂, _∙_, subst}
+use mathlib.Core.Path.{_≡_, ap, subst, _∙_}
 use mathlib.Core.Bool.{Bool, true, false, not, _&&_, cond}
-use Prim.Native.Nat.{ℕ, _+_, _*_, _-_, _^_, _≤_, _<_}
+use Prim.Native.Nat.{ℕ, _+_, _*_, _-_, _≤_, _<_}
 use native.Mathlib.Omega.{arith}
 use native.Mathlib.Nat.{mul-assoc, mul-comm, mul-right-comm, add-mul, mul-pos, lt-of-mul-lt-mul-right, le-of-mul-le-mul-right}
 use lib.Dec.{T, ltb, ltb→lt, nltb→le}
-use mathlib.Core.Path.{ap}
 use lib.Ieee.{Float, nan, inf, fin, binary64, up as num2, down as den2, round, sum, add, sub, neg}
 use lib.Ieee.Fits.{down-pos}
 use lib.Ieee.Exact.{HasValue}
