@@ -41,7 +41,7 @@ fn plan_net(
     ensures output { λ r. ⌜ now (out .exit) ≡ overwritten (bytesOf (planNet (netOf header n (now (xs .entry)) (now (ys .entry)) (now (required .entry))) (length (now (out .entry))))) (now (out .entry)) ⌝ }
 {
     let need = header.need;
-    let tally = tree::plan::plan(
+    let tally = first_tree::plan::plan(
         header,
         n,
         xs,

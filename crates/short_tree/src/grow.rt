@@ -12,8 +12,8 @@ use crate::choose::next_sink;
 use crate::edge::edge_to;
 use crate::edge::meeting;
 use crate::renew::renew;
-use tree::insert::split_edge;
 use tree::places::clear;
+use tree::split::split_edge;
 
 // The edge to the first sink is kept for each sink; the first itself is in.
 fn keep_first(

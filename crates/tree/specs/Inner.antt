@@ -5,5 +5,4 @@ pub mod Tallies
 pub mod Found
 pub mod Descent
 pub mod Insertion
-pub mod Choice
 pub mod Regathering

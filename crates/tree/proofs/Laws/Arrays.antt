@@ -4,7 +4,4 @@ pub mod ReadyNet
 pub mod ParentStores
 pub mod InsertionSort
 pub mod Merging
-pub mod Comparing
-pub mod Choosing
-pub mod InsertionLoop
 pub mod PlanArrays
