@@ -1,7 +1,6 @@
-// The two texts: spelled, read and written, and why they are refused. What stands above reads, measures and writes them by `read_net`, `read_listing`, `listing_length` and `write_listing`.
+// The two texts: spelled and read, and why they are refused. What stands above reads them by `read_net` and `read_listing`; `writing` writes listings.
 mod bytes;
 pub mod limits;
-pub mod listing_length;
 mod number;
 mod ranges;
 pub mod read_listing;
@@ -12,4 +11,3 @@ pub mod reader;
 pub mod refusal;
 mod scan;
 pub mod write;
-pub mod write_listing;

@@ -7,11 +7,11 @@ ghost use Rattle.formats.specs.Inner.ListingReader.{HasVertices, listingHeld};
 ghost use Rattle.operations.specs.Answers.{emitted, bytesOf, overwritten, planAnswer};
 use crate::answers::PlanAnswer;
 use formats::limits::LISTING_LENGTH_LIMIT;
-use formats::listing_length::listing_length;
 use formats::refusal::Refusal;
-use formats::write_listing::write_listing;
 use quantities::length::Length;
 use quantities::time::Time;
+use writing::listing_length::listing_length;
+use writing::write_listing::write_listing;
 
 // Whether the listing fits into so many bytes. It is counted only where some listing would not.
 fn has_room(

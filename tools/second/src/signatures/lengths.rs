@@ -20,8 +20,8 @@ const PRODUCT: &str = "crates/quantities/src/wire_factor.rt";
 /// to the short tree, which is read back as lengths, the router's score.
 const PLACES: [(&str, usize); 9] = [
     (PRODUCT, 1),
-    ("crates/formats/src/write_listing.rt", 1),
-    ("crates/formats/src/listing_length.rt", 1),
+    ("crates/writing/src/write_listing.rt", 1),
+    ("crates/writing/src/listing_length.rt", 1),
     ("crates/repeater_tree/src/lib.rt", 2),
     ("crates/console/src/lines.rt", 1),
     ("crates/short_tree/src/choose.rt", 1),
