@@ -46,7 +46,7 @@ fn limits(s: &mut Sources) -> &mut String {
     all.iter_mut().find(|l| l.contains("PIN_LIMIT: ")).unwrap()
 }
 
-const WRITER: &str = "crates/formats/src/write_listing.rt";
+const WRITER: &str = "crates/writing/src/write_listing.rt";
 const PRODUCT: &str = "crates/quantities/src/wire_factor.rt";
 const PAIR: &str = "crates/quantities/src/metal_pair.rt";
 const MEASURES: &str = "crates/tree/src/measure.rt";
