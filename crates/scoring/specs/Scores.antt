@@ -26,7 +26,7 @@ isFromZero k z = leZ (pos 0) z && leZ z (pos k)
 unfoldable pub isScored : ℤ → ℤ → ℤ → ℤ → Bool
 isScored A B cap m = isFromZero parts A && (isFromZero parts B && (isFromZero capLimit cap && leZ (negℤ (pos lateLimit)) m))
 
--- the score in 1024ths of what goes to min(..), or 14
+-- the score in 1024ths, m being min(..); or 14
 abbrev pub scoredAt : ℤ → ℤ → ℤ → ℤ → ℕ → Outcome ℤ
 scoredAt A B cap m wire = elim (isScored A B cap m) [ true ↦ value (score1024ths A B m wire) | false ↦ refused NotScored ]
 

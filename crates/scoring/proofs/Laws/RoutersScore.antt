@@ -31,16 +31,16 @@ use Rattle.scoring.specs.RoutersScore.{ScoreInRange, ScoreRefuses, Score
 use Rattle.scoring.specs.declared.score.ScoreAnswer.{ScoreAnswer}
 use Rattle.scoring.specs.declared.score.ScoreAnswer.the-variants.{Scored, ScoreRefused}
 use Rattle.scoring.proofs.Laws.Exact.{exactly}
-use Rattle.scoring.proofs.Laws.Scores.{can-only, can-if, scored-no, scored-yes, score-refused, score-judged}
+use Rattle.scoring.proofs.Laws.Scores.{scored-only, scored-if, scored-no, scored-yes, score-refused, score-judged}
 
 -- ---- the test is for the ranges
 
 module _ (A B cap slack : ℤ) where
   granted : ScoreInRange A B cap slack → isScored A B cap (minℤ slack cap) ≡ true
-  granted c = can-if A B cap (minℤ slack cap) (c .alpha, c .beta, c .cap-range, c .late)
+  granted c = scored-if A B cap (minℤ slack cap) (c .alpha, c .beta, c .cap-range, c .late)
 
   can : isScored A B cap (minℤ slack cap) ≡ true → ScoreInRange A B cap slack
-  can e = let h = can-only A B cap (minℤ slack cap) e in record { alpha = h .0; beta = h .1; cap-range = h .2; late = h .3 }
+  can e = let h = scored-only A B cap (minℤ slack cap) e in record { alpha = h .0; beta = h .1; cap-range = h .2; late = h .3 }
 
   -- the two ways that a score can end
   scored-cases : {C : Type 0} (wire : ℕ) (o : Outcome ℤ) → scored A B cap slack wire ≡ o

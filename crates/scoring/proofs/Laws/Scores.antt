@@ -74,18 +74,18 @@ module _ (A B cap m : ℤ) where
   abbrev pub InRanges : Type 0
   InRanges = FromZero parts A × FromZero parts B × FromZero capLimit cap × (negℤ (pos lateLimit) ≤ℤ m)
 
-  pub can-only : isScored A B cap m ≡ true → InRanges
+  pub scored-only : isScored A B cap m ≡ true → InRanges
   unfolding isScored
-  can-only e =
+  scored-only e =
       let a = both (isFromZero parts A) _ e in
       let b = both (isFromZero parts B) _ (a .1) in
       let c = both (isFromZero capLimit cap) _ (b .1) in
       let d = c .1 in
       (from-zero-only parts A (a .0), from-zero-only parts B (b .0), from-zero-only capLimit cap (c .0), omega (arith, whole))
 
-  pub can-if : InRanges → isScored A B cap m ≡ true
+  pub scored-if : InRanges → isScored A B cap m ≡ true
   unfolding isScored
-  can-if h = λ i. from-zero-if parts A (h .0) i && (from-zero-if parts B (h .1) i && (from-zero-if capLimit cap (h .2) i && leZ-is {a = negℤ (pos lateLimit)} {b = m} (h .3) i))
+  scored-if h = λ i. from-zero-if parts A (h .0) i && (from-zero-if parts B (h .1) i && (from-zero-if capLimit cap (h .2) i && leZ-is {a = negℤ (pos lateLimit)} {b = m} (h .3) i))
 
   -- by one test after the other
   pub no-alpha : not (isFromZero parts A) ≡ true → false ≡ isScored A B cap m

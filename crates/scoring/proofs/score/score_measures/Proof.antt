@@ -13,7 +13,7 @@ use Rattle.scoring.specs.Exact.{score1024ths}
 use Rattle.scoring.specs.Scores.{isScored, scoreAnswer}
 use Rattle.scoring.specs.Inner.Weighing.{Scorable}
 use Rattle.scoring.specs.declared.score.ScoreAnswer.the-variants.{Scored}
-use Rattle.scoring.proofs.Laws.Scores.{InRanges, can-only, scored-no, scored-yes, not-true, not-false}
+use Rattle.scoring.proofs.Laws.Scores.{InRanges, scored-only, scored-no, scored-yes, not-true, not-false}
 use borrow.Author.Needs.{needs}
 use Rattle.scoring.proofs.score.score_measures.Statement.{statement}
 use Rattle.scoring.proofs.score.score_measures.Tie as tie
@@ -46,7 +46,7 @@ returns c =
 ranges : (c : tie.Else1) → let a = c .before .before .before .before .args in InRanges (a .alpha-1024ths) (a .beta-1024ths) (a .cap) (minℤ (a .slack .0) (a .cap))
 ranges c =
     let a = c .before .before .before .before .args in
-    can-only (a .alpha-1024ths) (a .beta-1024ths) (a .cap) (minℤ (a .slack .0) (a .cap)) (sym (tested (c .before)) ∙ not-false _ (c .if1 .left))
+    scored-only (a .alpha-1024ths) (a .beta-1024ths) (a .cap) (minℤ (a .slack .0) (a .cap)) (sym (tested (c .before)) ∙ not-false _ (c .if1 .left))
 
 of-requires-2 : tie.Need-of-requires-2
 of-requires-2 c κs =
