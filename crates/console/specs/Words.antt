@@ -5,7 +5,7 @@ use Rattle.formats.specs.Bytes.{bytes, endByte}
 use Rattle.formats.specs.Decimal.{showNat}
 use Rattle.formats.specs.Refusals.{told}
 use Rattle.formats.specs.declared.refusal.Refusal.{Refusal}
-use Rattle.formats.specs.declared.refusal.Refusal.the-variants.{TooLong, NotDue, OutOfRange, BytesFollow, Unreachable, TooShort, OtherCount, SinkParent, WrongChildren, NotReached, OtherSlack, OtherWire, FarPin, NotScored}
+use Rattle.formats.specs.declared.refusal.Refusal.the-variants.{TooLong, NotDue, OutOfRange, BytesFollow, Unreachable, TooShort, OtherCount, SinkParent, WrongChildren, NotReached, OtherSlack, OtherWire, FarPin, NotScored, NotASink, OnlySink}
 
 -- "wrong number of children; line 0 for the root, else the lowest such branch point's"
 abbrev pub childrenWords : ℕ → List ℕ
@@ -39,8 +39,11 @@ words OtherWire = bytes "the stated wire is not the tree's wire"
 words (FarPin line) = bytes "the sink is too far from the root"
 -- 02, request 8: "if A, B or the cap is out of range or min(..) is below -1,000,000,000,000"
 words NotScored = bytes "alpha, beta or the cap is out of range, or the slack too low"
+-- 02, request 9: "if the sink number is not 1 to n", "if n is 1"
+words NotASink = bytes "the net has no sink of this number"
+words OnlySink = bytes "the net has no other sink"
 
--- "Text 1 is the net, 2 the listing, 0 neither.": then it is the output, of which 6 tells (14, the other of text 0, is a score's, and no program scores)
+-- "Text 1 is the net, 2 the listing, 0 neither.": then it is the output, of which 6 tells (14, 15 and 16, the others of text 0, are those of a score and of a deletion, for which there is no program)
 abbrev pub textName : List ℕ → List ℕ → ℕ → List ℕ
 textName net listing zero = bytes "output"
 textName net listing (suc zero) = net

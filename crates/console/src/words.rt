@@ -53,5 +53,7 @@ pub fn put_words(out: &mut [u8], at: usize, refusal: Refusal) -> usize
             at,
             b"alpha, beta or the cap is out of range, or the slack too low",
         ),
+        Refusal::NotASink => put_bytes(out, at, b"the net has no sink of this number"),
+        Refusal::OnlySink => put_bytes(out, at, b"the net has no other sink"),
     }
 }

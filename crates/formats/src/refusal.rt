@@ -1,4 +1,4 @@
-// Why an operation refuses: a case for each row of 01's table, for the far pin of 02's request 2 and for the score of its request 8.
+// Why an operation refuses: a case for each row of 01's table, and for those of 02's requests 2, 8 and 9.
 ghost use mathlib.Core.Path.{_≡_};
 ghost use Rattle.formats.specs.Refusals.{textNumber, told};
 
@@ -23,6 +23,8 @@ pub enum Refusal {
     OtherWire,
     FarPin { line: usize },
     NotScored,
+    NotASink,
+    OnlySink,
 }
 
 // A refusal by its number, its text (1 the net, 2 the listing, 0 neither) and its line.
@@ -113,6 +115,16 @@ pub fn tell(refusal: Refusal) -> Told
         },
         Refusal::NotScored => Told {
             number: 14,
+            text: 0,
+            line: 0,
+        },
+        Refusal::NotASink => Told {
+            number: 15,
+            text: 0,
+            line: 0,
+        },
+        Refusal::OnlySink => Told {
+            number: 16,
             text: 0,
             line: 0,
         },

@@ -17,6 +17,13 @@ impl WireFactor {
         WireFactor(attoseconds_per_nanometre)
     }
 
+    // The factor's number, for what goes out.
+    pub fn attoseconds_per_nanometre(self) -> u64
+        ensures { λ r. ⌜ r ≡ self .0 ⌝ }
+    {
+        self.0
+    }
+
     // The delay of so much wire in this factor's direction.
     pub fn delay(self, length: Length) -> Time
         requires { ⌜ FactorWithin factorReach self × (length .0 ≤ 2 * coordinateReach) ⌝ }

@@ -135,6 +135,24 @@ slice-aggregate-put-bytes-13 c = search needs
 put-bytes-requires-13 : tie.Need-put-bytes-requires-13
 put-bytes-requires-13 c κs = search needs
 
+enum-told-7 : tie.Need-enum-told-7
+enum-told-7 c = search needs
+
+slice-aggregate-put-bytes-14 : tie.Need-slice-aggregate-put-bytes-14
+slice-aggregate-put-bytes-14 c = search needs
+
+put-bytes-requires-14 : tie.Need-put-bytes-requires-14
+put-bytes-requires-14 c κs = search needs
+
+enum-told-8 : tie.Need-enum-told-8
+enum-told-8 c = search needs
+
+slice-aggregate-put-bytes-15 : tie.Need-slice-aggregate-put-bytes-15
+slice-aggregate-put-bytes-15 c = search needs
+
+put-bytes-requires-15 : tie.Need-put-bytes-requires-15
+put-bytes-requires-15 c κs = search needs
+
 same-length : tie.Need-same-length
 same-length c = search needs
 
@@ -219,6 +237,18 @@ same-length-14 c = search needs
 returns-14 : tie.Need-returns-14
 returns-14 c = same-words (c .before .before .before .before .before .before .before .before .args .at) _ _ (c .before .before .before .before .before .before .before .before .args .refusal) _ (c .before .before .before .before .before .enum-told6 .given .1) _ (c .before .before .put-bytes13 .ensures)
 
+same-length-15 : tie.Need-same-length-15
+same-length-15 c = search needs
+
+returns-15 : tie.Need-returns-15
+returns-15 c = same-words (c .before .before .before .before .before .before .before .before .args .at) _ _ (c .before .before .before .before .before .before .before .before .args .refusal) _ (c .before .before .before .before .before .enum-told7 .given .1) _ (c .before .before .put-bytes14 .ensures)
+
+same-length-16 : tie.Need-same-length-16
+same-length-16 c = search needs
+
+returns-16 : tie.Need-returns-16
+returns-16 c = same-words (c .before .before .before .before .before .before .before .before .args .at) _ _ (c .before .before .before .before .before .before .before .before .args .refusal) _ (c .before .before .before .before .before .enum-told8 .given .1) _ (c .before .before .put-bytes15 .ensures)
+
 pub put-words-spec : {M : Type 1} → statement M
 put-words-spec =
     tie.close
@@ -264,6 +294,12 @@ put-words-spec =
     enum-told-6
     slice-aggregate-put-bytes-13
     put-bytes-requires-13
+    enum-told-7
+    slice-aggregate-put-bytes-14
+    put-bytes-requires-14
+    enum-told-8
+    slice-aggregate-put-bytes-15
+    put-bytes-requires-15
     same-length
     returns
     same-length-2
@@ -291,4 +327,8 @@ put-words-spec =
     same-length-13
     returns-13
     same-length-14
-    returns-14)
+    returns-14
+    same-length-15
+    returns-15
+    same-length-16
+    returns-16)

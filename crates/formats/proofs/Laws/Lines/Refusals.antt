@@ -8,7 +8,7 @@ use Rattle.formats.specs.Refusals.{textNumber, told}
 use Rattle.formats.specs.declared.refusal.Text.{Text}
 use Rattle.formats.specs.declared.refusal.Text.the-variants.{InNet, InListing}
 use Rattle.formats.specs.declared.refusal.Refusal.{Refusal}
-use Rattle.formats.specs.declared.refusal.Refusal.the-variants.{TooLong, NotDue, OutOfRange, BytesFollow, Unreachable, TooShort, OtherCount, SinkParent, WrongChildren, NotReached, OtherSlack, OtherWire, FarPin, NotScored}
+use Rattle.formats.specs.declared.refusal.Refusal.the-variants.{TooLong, NotDue, OutOfRange, BytesFollow, Unreachable, TooShort, OtherCount, SinkParent, WrongChildren, NotReached, OtherSlack, OtherWire, FarPin, NotScored, NotASink, OnlySink}
 use Rattle.formats.specs.declared.refusal.Told.{Told}
 
 pub numbered : (e : Refusal) → 1 ≤ told e .number
@@ -26,6 +26,8 @@ numbered OtherSlack = omega arith
 numbered OtherWire = omega arith
 numbered (FarPin line) = omega arith
 numbered NotScored = omega arith
+numbered NotASink = omega arith
+numbered OnlySink = omega arith
 
 -- ---- the refusal from what is told of it
 
@@ -51,7 +53,9 @@ refusals text line =
     ∷ (OtherWire
     ∷ (FarPin line
     ∷ (NotScored
-    ∷ [])))))))))))))
+    ∷ (NotASink
+    ∷ (OnlySink
+    ∷ [])))))))))))))))
 
 abbrev refusal-of : Told → Refusal
 refusal-of t = getD (refusals (t .text) (t .line)) (t .number - 1) Unreachable
@@ -75,6 +79,8 @@ told-back OtherSlack = refl
 told-back OtherWire = refl
 told-back (FarPin line) = refl
 told-back NotScored = refl
+told-back NotASink = refl
+told-back OnlySink = refl
 
 pub told-one : (e f : Refusal) → told e ≡ told f → e ≡ f
 told-one e f q = sym (told-back e) ∙ ap refusal-of q ∙ told-back f

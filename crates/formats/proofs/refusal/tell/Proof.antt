@@ -59,6 +59,12 @@ enum-known-refusal-8 c = search needs
 enum-told-6 : tie.Need-enum-told-6
 enum-told-6 c = search needs
 
+enum-told-7 : tie.Need-enum-told-7
+enum-told-7 c = search needs
+
+enum-told-8 : tie.Need-enum-told-8
+enum-told-8 c = search needs
+
 returns : tie.Need-returns
 returns c = (λ i. record { number = 1; text = c .text-number .ensures i; line = 0 }) ∙ sym (ap told (c .before .before .refusal .given .1))
 
@@ -101,6 +107,12 @@ returns-13 c = sym (ap told (c .before .refusal8 .given .1))
 returns-14 : tie.Need-returns-14
 returns-14 c = sym (ap told (c .enum-told6 .given .1))
 
+returns-15 : tie.Need-returns-15
+returns-15 c = sym (ap told (c .enum-told7 .given .1))
+
+returns-16 : tie.Need-returns-16
+returns-16 c = sym (ap told (c .enum-told8 .given .1))
+
 pub tell-spec : {M : Type 1} → statement M
 tell-spec =
     tie.close
@@ -123,6 +135,8 @@ tell-spec =
     enum-told-5
     enum-known-refusal-8
     enum-told-6
+    enum-told-7
+    enum-told-8
     returns
     returns-2
     returns-3
@@ -136,4 +150,6 @@ tell-spec =
     returns-11
     returns-12
     returns-13
-    returns-14)
+    returns-14
+    returns-15
+    returns-16)
