@@ -99,7 +99,7 @@ judged N G = judgement (record { net = N; listing = G })
 
 module _ (N : Net) (listing : List ℕ) (G : Listing) (F : ListingInFormat (size N) listing G) where
   -- a legal tree with true figures is accepted
-  true-accepted : LegalAndTrue N G → acceptListing N listing ≡ value G
+  pub true-accepted : LegalAndTrue N G → acceptListing N listing ≡ value G
   true-accepted t =
       let k = legal-no-sink (size N) (G .tree .parents) (t .0 .shape) in
       ap (λ o. andThen o (acceptTree N)) (listing-complete (size N) listing G F k)
@@ -116,24 +116,31 @@ module _ (N : Net) (listing : List ℕ) (G : Listing) (F : ListingInFormat (size
       let same : G ≡ H = cc in
       ((record { shape = L; placed = F .in-range .points-all }, e, f), same)
 
+-- what an accepted text is
+pub accepted-is : (N : Net) (listing : List ℕ) (G : Listing) → acceptListing N listing ≡ value G → ListingInFormat (size N) listing G × LegalAndTrue N G
+accepted-is N listing G h = go (readListing (size N) listing) refl h
+  where
+    go : (o : Outcome Listing) → readListing (size N) listing ≡ o → andThen o (acceptTree N) ≡ value G → ListingInFormat (size N) listing G × LegalAndTrue N G
+    go (value H) r w =
+        let f = listing-sound (size N) listing H r in
+        let t = accepted-true N listing H (f .0) (f .1) G w in
+        subst (λ K. ListingInFormat (size N) listing K × LegalAndTrue N K) (t .1) (f .0, t .0)
+    go (refused e) r w = never G e (sym w)
+
 module _ (net : List ℕ) (N : Net) (F : InFormat net N) (listing : List ℕ) where
   -- judge, once the net is read
   to-listing : judgeOf net listing ≡ judgeNet N listing
   to-listing = judge-read net N (net-complete net N F) listing
 
-  -- what an accepted text is
+  -- what a text is that judge accepts
   read-judge : (j : Judgement) → judgeOf net listing ≡ value j → (G : Listing) × (ListingInFormat (size N) listing G × LegalAndTrue N G × (j ≡ judged N G))
-  read-judge j h = go (readListing (size N) listing) refl (sym to-listing ∙ h)
+  read-judge j h = go (acceptListing N listing) refl (sym to-listing ∙ h)
     where
-      over : (G : Listing) → ListingInFormat (size N) listing G × NoSinkParent (size N) (G .tree .parents) → (o : Outcome Listing) → acceptTree N G ≡ o → andThen o (λ G. value (judged N G)) ≡ value j → (G : Listing) × (ListingInFormat (size N) listing G × LegalAndTrue N G × (j ≡ judged N G))
-      over G f (value H) r w =
-          let t = accepted-true N listing G (f .0) (f .1) H r in
-          let q : judged N H ≡ j = cc in
-          (G, (f .0, t .0, sym q ∙ ap (judged N) (sym (t .1))))
-      over G f (refused e) r w = never j e (sym w)
-
-      go : (o : Outcome Listing) → readListing (size N) listing ≡ o → andThen (andThen o (acceptTree N)) (λ G. value (judged N G)) ≡ value j → (G : Listing) × (ListingInFormat (size N) listing G × LegalAndTrue N G × (j ≡ judged N G))
-      go (value G) r w = over G (listing-sound (size N) listing G r) (acceptTree N G) refl w
+      go : (o : Outcome Listing) → acceptListing N listing ≡ o → andThen o (λ G. value (judged N G)) ≡ value j → (G : Listing) × (ListingInFormat (size N) listing G × LegalAndTrue N G × (j ≡ judged N G))
+      go (value G) r w =
+          let t = accepted-is N listing G r in
+          let q : judged N G ≡ j = cc in
+          (G, (t .0, t .1, sym q))
       go (refused e) r w = never j e (sym w)
 
   -- and what is accepted

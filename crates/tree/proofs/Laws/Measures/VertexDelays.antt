@@ -63,14 +63,14 @@ way-is N T p (suc j) zero z = sym (top (suc j))
     top (suc i) = rw z (ap₂ _+_ (delay-self (N .wire) (place N T 0)) (top i))
 way-is N T p (suc j) (suc v) z = ap (λ m. between N T (p (suc v)) (suc v) + m) (way-is N T p j (p (suc v)) z)
 
-oneIf-yes : (n u : ℕ) → n < u → oneIf (ltb n u) ≡ 1
+pub oneIf-yes : (n u : ℕ) → n < u → oneIf (ltb n u) ≡ 1
 oneIf-yes n u h = by (ltb n u) (lt→ltb n u h)
   where
     by : (t : Bool) → T t → oneIf t ≡ 1
     by true _ = refl
     by false e = absurd e
 
-oneIf-no : (n u : ℕ) → u ≤ n → oneIf (ltb n u) ≡ 0
+pub oneIf-no : (n u : ℕ) → u ≤ n → oneIf (ltb n u) ≡ 0
 oneIf-no n u h = by (ltb n u) (λ t. ltb→lt n u t)
   where
     by : (t : Bool) → (T t → n < u) → oneIf t ≡ 0

@@ -1,9 +1,11 @@
 -- Walks up a tree: where they lead, and how many vertices below the root they pass. Assumes nothing.
 use mathlib.Core.Path.{_≡_, refl, sym, ap, _∙_}
 use Prim.Native.Nat.{ℕ, zero, suc, _+_, _-_, _*_, _^_, _≤_, zero-le}
+use mathlib.Core.List.{_∷_}
 use native.Mathlib.Nat.{zero-add, suc-add, pow-succ'}
 use native.Mathlib.Omega.{arith}
 use Rattle.tree.specs.Tree.{ancestor}
+use Rattle.tree.specs.Measures.{pathUp}
 
 -- how many of the vertices v, p v, .. k of them, are not the root
 abbrev pub hops : (ℕ → ℕ) → ℕ → ℕ → ℕ
@@ -22,6 +24,22 @@ ancestor-more p (suc j) v z r = ancestor-more p j (p v) z r
 pub ancestor-add : (p : ℕ → ℕ) (j F v : ℕ) → p 0 ≡ 0 → ancestor p F v ≡ 0 → ancestor p (j + F) v ≡ 0
 ancestor-add p zero F v z h = rw (zero-add F) h
 ancestor-add p (suc j) F v z h = rw suc-add (ancestor-more p (j + F) v z (ancestor-add p j F v z h))
+
+-- the path up from v ends at the root: more steps do not change it
+path-more : (p : ℕ → ℕ) (k v : ℕ) → ancestor p k v ≡ 0 → pathUp p (suc k) v ≡ pathUp p k v
+path-more p zero zero h = refl
+path-more p zero (suc v) h = absurd (omega arith)
+path-more p (suc k) zero h = refl
+path-more p (suc k) (suc v) h = ap (_∷_ (suc v)) (path-more p k (p (suc v)) h)
+
+path-add : (p : ℕ → ℕ) (j k v : ℕ) → p 0 ≡ 0 → ancestor p k v ≡ 0 → pathUp p (j + k) v ≡ pathUp p k v
+path-add p zero k v z h = ap (λ i. pathUp p i v) (zero-add k)
+path-add p (suc j) k v z h = rw suc-add (path-more p (j + k) v (ancestor-add p j k v z h) ∙ path-add p j k v z h)
+
+pub path-same : (p : ℕ → ℕ) (j k v : ℕ) → p 0 ≡ 0 → ancestor p j v ≡ 0 → ancestor p k v ≡ 0 → pathUp p j v ≡ pathUp p k v
+path-same p j k v z h l =
+    let e : k + j ≡ j + k = omega arith in
+    sym (path-add p k j v z h) ∙ ap (λ i. pathUp p i v) e ∙ path-add p j k v z l
 
 pub hops-stable : (p : ℕ → ℕ) (k v : ℕ) → ancestor p k v ≡ 0 → hops p (suc k) v ≡ hops p k v
 hops-stable p zero zero h = refl

@@ -1,0 +1,8 @@
+-- Laws of a deletion, bottom first.
+pub mod Dropping
+pub mod Numbers
+pub mod ShorterPaths
+pub mod ShorterLegal
+pub mod Kept
+pub mod Closing
+pub mod HeldShorter
