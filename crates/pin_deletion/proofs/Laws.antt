@@ -6,3 +6,5 @@ pub mod ShorterLegal
 pub mod Kept
 pub mod Closing
 pub mod HeldShorter
+pub mod ShorterInRange
+pub mod Shortened
