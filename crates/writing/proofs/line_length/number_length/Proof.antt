@@ -8,8 +8,8 @@ use mir.Facts.{toZ-ofZ}
 use Rattle.formats.specs.Decimal.{showNat}
 use Rattle.formats.proofs.Laws.Numbers.Decimal.{show-minus, show-plain}
 use Rattle.formats.proofs.Laws.Listings.ListingLengths.{natural-short}
-use Rattle.writing.proofs.listing_length.number_length.Statement.{statement}
-use Rattle.writing.proofs.listing_length.number_length.Tie as tie
+use Rattle.writing.proofs.line_length.number_length.Statement.{statement}
+use Rattle.writing.proofs.line_length.number_length.Tie as tie
 
 mag-is : (c : tie.After-magnitude) → c .magnitude .result ≡ natAbs (c .before .args .z)
 mag-is c = c .magnitude .ensures ∙ ap natAbs (toZ-ofZ (c .before .fits .z))

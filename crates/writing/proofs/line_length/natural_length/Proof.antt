@@ -5,8 +5,8 @@ use native.Mathlib.Omega.{arith}
 use lib.ListN.{length}
 use Rattle.formats.specs.Decimal.{showNat}
 use Rattle.formats.proofs.Laws.Listings.ListingLengths.{four-more, natural-short}
-use Rattle.writing.proofs.listing_length.natural_length.Statement.{statement}
-use Rattle.writing.proofs.listing_length.natural_length.Tie as tie
+use Rattle.writing.proofs.line_length.natural_length.Statement.{statement}
+use Rattle.writing.proofs.line_length.natural_length.Tie as tie
 
 abbrev Inv-loop : tie.InvT-loop
 Inv-loop n left₀ counted₀ left counted = counted + length (showNat left) ≡ length (showNat n)

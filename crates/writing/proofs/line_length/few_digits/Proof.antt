@@ -2,8 +2,8 @@
 use Prim.Native.Nat.{_/_}
 use native.Mathlib.Omega.{arith}
 use Rattle.formats.proofs.Laws.Listings.ListingLengths.{one-digit, digit-more}
-use Rattle.writing.proofs.listing_length.few_digits.Statement.{statement}
-use Rattle.writing.proofs.listing_length.few_digits.Tie as tie
+use Rattle.writing.proofs.line_length.few_digits.Statement.{statement}
+use Rattle.writing.proofs.line_length.few_digits.Tie as tie
 
 returns : tie.Need-returns
 returns c =

@@ -8,8 +8,8 @@ use mir.Facts.{toZ-ofZ}
 use Rattle.formats.specs.Decimal.{show}
 use Rattle.formats.specs.Line.{lineText}
 use Rattle.formats.proofs.Laws.Listings.ListingLengths.{number-short, line1-short, line2-long}
-use Rattle.writing.proofs.listing_length.line2_length.Statement.{statement}
-use Rattle.writing.proofs.listing_length.line2_length.Tie as tie
+use Rattle.writing.proofs.line_length.line2_length.Statement.{statement}
+use Rattle.writing.proofs.line_length.line2_length.Tie as tie
 
 front-is : (c : tie.After-line1-length) → c .line1-length .result ≡ length (lineText (c .before .before .args .key .now) (c .before .before .args .a ∷ []))
 front-is c = rw (toZ-ofZ (c .before .before .fits .a)) at (c .line1-length .ensures)

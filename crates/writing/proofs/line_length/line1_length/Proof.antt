@@ -6,8 +6,8 @@ use lib.ListN.{length}
 use mir.Facts.{toZ-ofZ}
 use Rattle.formats.specs.Decimal.{show}
 use Rattle.formats.proofs.Laws.Listings.ListingLengths.{number-short, line1-long}
-use Rattle.writing.proofs.listing_length.line1_length.Statement.{statement}
-use Rattle.writing.proofs.listing_length.line1_length.Tie as tie
+use Rattle.writing.proofs.line_length.line1_length.Statement.{statement}
+use Rattle.writing.proofs.line_length.line1_length.Tie as tie
 
 number-is : (c : tie.After-number-length) → c .number-length .result ≡ length (show (c .before .before .args .a))
 number-is c = rw (toZ-ofZ (c .before .before .fits .a)) at (c .number-length .ensures)

@@ -8,8 +8,8 @@ use mir.Facts.{toZ-ofZ}
 use Rattle.formats.specs.Decimal.{show}
 use Rattle.formats.specs.Line.{lineText}
 use Rattle.formats.proofs.Laws.Listings.ListingLengths.{number-short, line2-short, line4-long}
-use Rattle.writing.proofs.listing_length.line4_length.Statement.{statement}
-use Rattle.writing.proofs.listing_length.line4_length.Tie as tie
+use Rattle.writing.proofs.line_length.line4_length.Statement.{statement}
+use Rattle.writing.proofs.line_length.line4_length.Tie as tie
 
 front-is : (c : tie.After-line2-length) → c .line2-length .result ≡ length (lineText (c .before .before .args .key .now) (c .before .before .args .a ∷ (c .before .before .args .b ∷ [])))
 front-is c = rw (toZ-ofZ (c .before .before .fits .a), toZ-ofZ (c .before .before .fits .b)) at (c .line2-length .ensures)
