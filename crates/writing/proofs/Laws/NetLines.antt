@@ -91,7 +91,6 @@ module _ (h : Header) (root : Point) (n : ℕ) (R : HeadInRange h root n) where
 
   pub head-short : length (netHeadText h root n) ≤ 154
   head-short =
-      let w = wire-writable (h .wire .horizontal .0) (h .wire .vertical .0) (λ i. h .wire .horizontal .0) (λ i. h .wire .vertical .0) in
       omega (
         arith,
         head-parts,

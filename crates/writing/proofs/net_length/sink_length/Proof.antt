@@ -1,5 +1,7 @@
 -- The length of a sink's line: the line of four numbers is the sink's. No loop.
-use mathlib.Core.Path.{ap, _∙_}
+use Prim.Native.Nat.{ℕ}
+use mathlib.Core.Path.{_≡_, subst}
+use mathlib.Core.List.{List}
 use lib.ListN.{length}
 use Rattle.writing.proofs.Laws.NetLines.{sink-writable, sink-line}
 use borrow.Author.Needs.{needs}
@@ -43,7 +45,8 @@ returns : tie.Need-returns
 returns c =
     let st = c .before .before .before .before .before .before in
     let a = st .args in
-    c .line4-length .ensures ∙ ap length (sink-line (a .xs .now) (a .ys .now) (a .required .now) (a .weights .now) (a .k) (st .pre))
+    let line = sink-line (a .xs .now) (a .ys .now) (a .required .now) (a .weights .now) (a .k) (st .pre) in
+    subst (λ (s : List ℕ). c .line4-length .result ≡ length s) line (c .line4-length .ensures)
 
 pub sink-length-spec : {M : Type 1} → statement M
 sink-length-spec =
