@@ -45,6 +45,13 @@ positive-within k z l h =
 
 -- ---- the head
 
+pub head-parts : (h : Header) (root : Point) (n : ℕ) → length (netHeadText h root n) ≡ length (rootLine root) + length (branchLine h) + length (wireLine h) + length (needLine h) + length (countLine n)
+head-parts h root n =
+    let two = rootLine root ++ branchLine h in
+    let three = two ++ wireLine h in
+    let four = three ++ needLine h in
+    omega (arith, length-append four (countLine n), length-append three (needLine h), length-append two (wireLine h), length-append (rootLine root) (branchLine h))
+
 module _ (h : Header) (root : Point) (n : ℕ) (R : HeadInRange h root n) where
   pub root-writable : Writable (rd (root .x)) × Writable (rd (root .y))
   root-writable = (back-writable positionLimit (root .x) (omega arith) (R .root-in .0), back-writable positionLimit (root .y) (omega arith) (R .root-in .1))
@@ -82,18 +89,12 @@ module _ (h : Header) (root : Point) (n : ℕ) (R : HeadInRange h root n) where
   pub count-line : lineText sinksKey (toZ w64 n ∷ []) ≡ countLine n
   count-line = ap (λ (x : ℤ). lineText sinksKey (x ∷ [])) (plain-back n (omega (arith, R .few)))
 
-  pub head-parts : length (netHeadText h root n) ≡ length (rootLine root) + length (branchLine h) + length (wireLine h) + length (needLine h) + length (countLine n)
-  head-parts =
-      let two = rootLine root ++ branchLine h in
-      let three = two ++ wireLine h in
-      let four = three ++ needLine h in
-      omega (arith, length-append four (countLine n), length-append three (needLine h), length-append two (wireLine h), length-append (rootLine root) (branchLine h))
-
+  -- each line is its key, and 18 bytes at most for a number
   pub head-short : length (netHeadText h root n) ≤ 154
   head-short =
       omega (
         arith,
-        head-parts,
+        head-parts h root n,
         line2-short rootKey (root .x) (root .y) (within-writable positionLimit _ (omega arith) (R .root-in .0)) (within-writable positionLimit _ (omega arith) (R .root-in .1)),
         line1-short branchKey (h .branch .0) (within-writable branchLimit _ (omega arith) (R .branch)),
         line2-short wireKey (pos (h .wire .horizontal .0)) (pos (h .wire .vertical .0)) (omega (arith, R .wire .0 .1)) (omega (arith, R .wire .1 .1)),

@@ -9,7 +9,7 @@ use Rattle.quantities.specs.declared.point.Point.{Point}
 use Rattle.quantities.specs.Inner.Linear.{up, rd}
 use Rattle.quantities.specs.Ranges.{Within}
 use Rattle.tree.specs.declared.header.Header.{Header}
-use Rattle.tree.specs.Net.{Net, Sink, size, sinkNumbers}
+use Rattle.tree.specs.Net.{size, sinkNumbers}
 use Rattle.tree.specs.Weights.{weightOf}
 use Rattle.tree.specs.Limits.{positionLimit, branchLimit, requiredLimit, WeightsInRange}
 use Rattle.tree.specs.Inner.Arrays.{pointAt, netOf, weightsOf, HoldsNet, HoldsWeights}
@@ -48,9 +48,7 @@ sinksPart n xs ys rs ws = linesText (sinkLine xs ys rs ws) (sinkNumbers n)
 abbrev pub rootRead : List ℤ → List ℤ → Point
 rootRead xs ys = record { x = rd (getD xs 0 (pos 0)); y = rd (getD ys 0 (pos 0)) }
 
-module _ (h : Header) (n : ℕ) (xs ys rs ws : List ℤ) (net : HoldsNet h n xs ys rs) (weights : HoldsWeights n ws) where
-  -- ---- what is put is in range
-
+module _ (h : Header) (n : ℕ) (xs ys rs : List ℤ) (net : HoldsNet h n xs ys rs) where
   pub root-back : rootRead xs ys ≡ pointAt xs ys 0
   root-back =
       let x = within-back positionLimit _ (omega arith) (net .in-range .root .0) in
@@ -66,35 +64,35 @@ module _ (h : Header) (n : ℕ) (xs ys rs ws : List ℤ) (net : HoldsNet h n xs 
     few = some-few h n xs ys rs net .1;
   }
 
-  sink-in-range : (k : ℕ) → 1 ≤ k → k ≤ n → SinkInRange xs ys rs ws k
-  sink-in-range k p q = record {
-    place = (omega (arith, net .points .xs-long), omega (arith, net .points .ys-long), omega (arith, net .required-long), omega (arith, weights .long));
-    point = net .points .near k (omega arith);
-    arrival = subst (Within requiredLimit) (required-at h n xs ys rs k p q) (net .in-range .required k p (omega (arith, size-is h n xs ys rs)));
-    weight = omega (arith, weight-at n ws k p q, weights .in-range .each k p q);
-  }
+  module _ (ws : List ℤ) where
+    pub net-is : netHeldText h n xs ys rs ws ≡ headPart h n xs ys ++ sinksPart n xs ys rs ws
+    unfolding netLines
+    net-is =
+        let root = pointAt xs ys 0 in
+        let count = size-is h n xs ys rs in
+        let branch = sym (branch-is h n xs ys rs net) in
+        let sinks = sinks-are xs ys rs ws (sinkNumbers n) in
+        let right : netHeldText h n xs ys rs ws ≡ rootLine root ++ (branchLine h ++ (wireLine h ++ (needLine h ++ (countLine n ++ sinksPart n xs ys rs ws)))) =
+        (λ i. rootLine root ++ (lineText branchKey (branch i ∷ []) ++ (wireLine h ++ (needLine h ++ (countLine (count i) ++ sinks i))))) in
+        right ∙ simp append-assoc
 
-  pub sinks-in-range : SinksInRange n xs ys rs ws
-  sinks-in-range = record { few = some-few h n xs ys rs net .1; each = sink-in-range }
+    pub net-parts : length (netHeldText h n xs ys rs ws) ≡ length (headPart h n xs ys) + length (sinksPart n xs ys rs ws)
+    net-parts = ap length net-is ∙ length-append (headPart h n xs ys) (sinksPart n xs ys rs ws)
 
-  -- ---- the parts of the text
+    module _ (weights : HoldsWeights n ws) where
+      sink-in-range : (k : ℕ) → 1 ≤ k → k ≤ n → SinkInRange xs ys rs ws k
+      sink-in-range k p q = record {
+        place = (omega (arith, net .points .xs-long), omega (arith, net .points .ys-long), omega (arith, net .required-long), omega (arith, weights .long));
+        point = net .points .near k (omega arith);
+        arrival = subst (Within requiredLimit) (required-at h n xs ys rs k p q) (net .in-range .required k p (omega (arith, size-is h n xs ys rs)));
+        weight = omega (arith, weight-at n ws k p q, weights .in-range .each k p q);
+      }
 
-  pub net-is : netHeldText h n xs ys rs ws ≡ headPart h n xs ys ++ sinksPart n xs ys rs ws
-  unfolding netLines
-  net-is =
-      let root = pointAt xs ys 0 in
-      let count = size-is h n xs ys rs in
-      let branch = sym (branch-is h n xs ys rs net) in
-      let sinks = sinks-are xs ys rs ws (sinkNumbers n) in
-      let right : netHeldText h n xs ys rs ws ≡ rootLine root ++ (branchLine h ++ (wireLine h ++ (needLine h ++ (countLine n ++ sinksPart n xs ys rs ws)))) =
-      (λ i. rootLine root ++ (lineText branchKey (branch i ∷ []) ++ (wireLine h ++ (needLine h ++ (countLine (count i) ++ sinks i))))) in
-      right ∙ simp append-assoc
+      pub sinks-in-range : SinksInRange n xs ys rs ws
+      sinks-in-range = record { few = some-few h n xs ys rs net .1; each = sink-in-range }
 
-  pub net-parts : length (netHeldText h n xs ys rs ws) ≡ length (headPart h n xs ys) + length (sinksPart n xs ys rs ws)
-  net-parts = ap length net-is ∙ length-append (headPart h n xs ys) (sinksPart n xs ys rs ws)
-
-  -- so each part is short
-  pub parts-short : length (headPart h n xs ys) + length (sinksPart n xs ys rs ws) ≤ netLengthLimit
-  parts-short =
-      let w : WeightsInRange (size (netOf h n xs ys rs)) (weightsOf n ws) = subst (λ (k : ℕ). WeightsInRange k (weightsOf n ws)) (sym (size-is h n xs ys rs)) (weights .in-range) in
-      omega (arith, net-parts, net-short (netOf h n xs ys rs) (weightsOf n ws) (net .in-range) w)
+      -- so each part is short
+      pub parts-short : length (headPart h n xs ys) + length (sinksPart n xs ys rs ws) ≤ netLengthLimit
+      parts-short =
+          let w : WeightsInRange (size (netOf h n xs ys rs)) (weightsOf n ws) = subst (λ (k : ℕ). WeightsInRange k (weightsOf n ws)) (sym (size-is h n xs ys rs)) (weights .in-range) in
+          omega (arith, net-parts, net-short (netOf h n xs ys rs) (weightsOf n ws) (net .in-range) w)

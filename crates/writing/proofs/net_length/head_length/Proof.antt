@@ -28,7 +28,7 @@ sum-is c =
       c .before .before .before .before .before .line2-length2 .ensures ∙ ap length (wire-line h root n (st .pre) _ _ (c .before .before .before .before .before .before .before .before .before .before .before .before .before .before .before .attoseconds-per-nanometre .ensures) (c .before .before .before .before .before .before .before .before .before .before .before .before .before .before .attoseconds-per-nanometre2 .ensures)),
       c .before .before .line1-length2 .ensures ∙ ap length (need-line h root n (st .pre) _ (c .before .before .before .attoseconds2 .ensures)),
       c .line1-length3 .ensures ∙ ap length (count-line h root n (st .pre)),
-      head-parts h root n (st .pre),
+      head-parts h root n,
     )
 
 attoseconds-per-nanometre-requires : tie.Need-attoseconds-per-nanometre-requires

@@ -15,12 +15,12 @@ use Rattle.writing.proofs.net_length.net_length.Tie as tie
 root : (c : tie.Start) → rootRead (c .args .xs .now) (c .args .ys .now) ≡ pointAt (c .args .xs .now) (c .args .ys .now) 0
 root c =
     let a = c .args in
-    root-back (a .header) (a .n) (a .xs .now) (a .ys .now) (a .required .now) (a .weights .now) (c .pre .0) (c .pre .1)
+    root-back (a .header) (a .n) (a .xs .now) (a .ys .now) (a .required .now) (c .pre .0)
 
 short : (c : tie.Start) → length (headPart (c .args .header) (c .args .n) (c .args .xs .now) (c .args .ys .now)) + length (sinksPart (c .args .n) (c .args .xs .now) (c .args .ys .now) (c .args .required .now) (c .args .weights .now)) ≤ netLengthLimit
 short c =
     let a = c .args in
-    parts-short (a .header) (a .n) (a .xs .now) (a .ys .now) (a .required .now) (a .weights .now) (c .pre .0) (c .pre .1)
+    parts-short (a .header) (a .n) (a .xs .now) (a .ys .now) (a .required .now) (c .pre .0) (a .weights .now) (c .pre .1)
 
 abbrev from : tie.After-head-length → tie.Start
 from c = c .before .before .before
@@ -40,13 +40,13 @@ head-length-requires : tie.Need-head-length-requires
 head-length-requires c κs =
     let st = c .before .before in
     let a = st .args in
-    subst (λ (p : Point). HeadInRange (a .header) p (a .n)) (sym (root st)) (head-in-range (a .header) (a .n) (a .xs .now) (a .ys .now) (a .required .now) (a .weights .now) (st .pre .0) (st .pre .1))
+    subst (λ (p : Point). HeadInRange (a .header) p (a .n)) (sym (root st)) (head-in-range (a .header) (a .n) (a .xs .now) (a .ys .now) (a .required .now) (st .pre .0))
 
 sinks-length-requires : tie.Need-sinks-length-requires
 sinks-length-requires c κs =
     let st = c .before .before .before in
     let a = st .args in
-    (sinks-in-range (a .header) (a .n) (a .xs .now) (a .ys .now) (a .required .now) (a .weights .now) (st .pre .0) (st .pre .1), omega (arith, short st))
+    (sinks-in-range (a .header) (a .n) (a .xs .now) (a .ys .now) (a .required .now) (st .pre .0) (a .weights .now) (st .pre .1), omega (arith, short st))
 
 add-result : tie.Need-add-result
 add-result c = omega (arith, head-is (c .before), c .sinks-length .ensures, short (c .before .before .before .before))
@@ -55,7 +55,7 @@ returns : tie.Need-returns
 returns c =
     let st = c .before .before .before .before in
     let a = st .args in
-    omega (arith, head-is (c .before), c .sinks-length .ensures, net-parts (a .header) (a .n) (a .xs .now) (a .ys .now) (a .required .now) (a .weights .now) (st .pre .0) (st .pre .1))
+    omega (arith, head-is (c .before), c .sinks-length .ensures, net-parts (a .header) (a .n) (a .xs .now) (a .ys .now) (a .required .now) (st .pre .0) (a .weights .now))
 
 pub net-length-spec : {M : Type 1} → statement M
 net-length-spec =

@@ -25,12 +25,12 @@ sinks c = sinksPart (c .args .n) (c .args .xs .now) (c .args .ys .now) (c .args 
 text : (c : tie.Start) → netHeldText (c .args .header) (c .args .n) (c .args .xs .now) (c .args .ys .now) (c .args .required .now) (c .args .weights .now) ≡ head c ++ sinks c
 text c =
     let a = c .args in
-    net-is (a .header) (a .n) (a .xs .now) (a .ys .now) (a .required .now) (a .weights .now) (c .pre .0 .0) (c .pre .0 .1)
+    net-is (a .header) (a .n) (a .xs .now) (a .ys .now) (a .required .now) (c .pre .0 .0) (a .weights .now)
 
 root : (c : tie.Start) → rootRead (c .args .xs .now) (c .args .ys .now) ≡ pointAt (c .args .xs .now) (c .args .ys .now) 0
 root c =
     let a = c .args in
-    root-back (a .header) (a .n) (a .xs .now) (a .ys .now) (a .required .now) (a .weights .now) (c .pre .0 .0) (c .pre .0 .1)
+    root-back (a .header) (a .n) (a .xs .now) (a .ys .now) (a .required .now) (c .pre .0 .0)
 
 room : (c : tie.Start) → 0 + length (head c ++ sinks c) ≤ length (c .args .out .now)
 room c = omega (arith, ap length (text c), c .pre .1)
@@ -55,7 +55,7 @@ put-head-requires c κs =
     let st = c .before .before .before .before in
     let a = st .args in
     let back = sym (root st) in
-    let inside = head-in-range (a .header) (a .n) (a .xs .now) (a .ys .now) (a .required .now) (a .weights .now) (st .pre .0 .0) (st .pre .0 .1) in
+    let inside = head-in-range (a .header) (a .n) (a .xs .now) (a .ys .now) (a .required .now) (st .pre .0 .0) in
     let fits = fits-first (a .out .now) 0 (head st) (sinks st) (room st) in (
       subst (λ (p : Point). HeadInRange (a .header) p (a .n)) back inside,
       subst (λ (p : Point). length (netHeadText (a .header) p (a .n)) ≤ length (a .out .now)) back (rw zero-add at fits),
@@ -65,7 +65,7 @@ put-sinks-requires : tie.Need-put-sinks-requires
 put-sinks-requires c κs =
     let st = c .before .before .before .before .before .before .before .before in
     let a = st .args in
-    let inside = sinks-in-range (a .header) (a .n) (a .xs .now) (a .ys .now) (a .required .now) (a .weights .now) (st .pre .0 .0) (st .pre .0 .1) in
+    let inside = sinks-in-range (a .header) (a .n) (a .xs .now) (a .ys .now) (a .required .now) (st .pre .0 .0) (a .weights .now) (st .pre .0 .1) in
     (inside, fits-next _ _ (head st) (sinks st) (room st) _ _ (head-put (c .before .before .before)))
 
 same-length : tie.Need-same-length
