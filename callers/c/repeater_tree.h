@@ -1,7 +1,7 @@
-/* The repeater tree planner: five calls on text.
+/* The repeater tree planner: six calls on text.
  *
  * docs/FORMAT.md has the two texts, their ranges and the rules of the three
- * plans and of the score.
+ * plans, of the score and of a pin's deletion.
  * Positions and lengths are in nanometres (nm), times in attoseconds (as),
  * the two wire factors in as per nm, which is fs per um. A distance is
  * |dx| + |dy|. The net's line wire=h,v gives a factor for each metal direction,
@@ -9,13 +9,14 @@
  * pin limit are plain nanometres, and the listing's line wire=L has one number.
  * The net's line sink=X,Y,a,w gives a sink's position, its required arrival and
  * its switching weight, 1 to 1,000. plan_weighted alone goes by the weights;
- * the other calls read them and do not look at them.
+ * the other calls read them and do not look at them, and delete_pin hands them
+ * on as they are.
  *
  * What the caller owes:
  *   - the pointer to a text or an output is valid for its length; where the
  *     length is 0 any pointer will do, NULL too;
  *   - each figure's pointer is valid and aligned for writing its type;
- *   - the output and the figures overlap neither each other nor the inputs
+ *   - the outputs and the figures overlap neither each other nor the inputs
  *     (the two input texts may overlap, they are only read);
  *   - the calling thread has REPEATER_TREE_STACK bytes of stack left.
  * A call keeps nothing and allocates nothing, and calls may run in several
@@ -40,11 +41,12 @@ extern "C" {
 /* While MAJOR is 0, another MINOR may change the texts, the answers or the
  * calls; another PATCH changes none of them. */
 #define REPEATER_TREE_VERSION_MAJOR 0
-#define REPEATER_TREE_VERSION_MINOR 9
+#define REPEATER_TREE_VERSION_MINOR 10
 #define REPEATER_TREE_VERSION_PATCH 0
 
-/* The longest texts that are read, in bytes. No listing that a plan writes
- * is longer than the second, so an output of that length is always enough. */
+/* The longest texts that are read, in bytes. No net that a call writes is longer
+ * than the first and no listing longer than the second, so an output of that
+ * length is always enough. */
 #define REPEATER_TREE_NET_LENGTH 32768
 #define REPEATER_TREE_LISTING_LENGTH 32768
 
@@ -86,25 +88,27 @@ enum {
     /* plan: no legal tree has the worst slack that the net's need line asks
      * for. Text 1, line 4. */
     REPEATER_TREE_UNREACHABLE = 5,
-    /* plan, plan_short, plan_weighted: the output is shorter than the listing.
-     * Text 0, line 0. */
+    /* plan, plan_short, plan_weighted: the output is shorter than the listing;
+     * delete_pin: either output is shorter than its text. Text 0, line 0. */
     REPEATER_TREE_SHORT_OUTPUT = 6,
-    /* judge, score: the listing's number of sinks is not the net's.
+    /* judge, score, delete_pin: the listing's number of sinks is not the net's.
      * Text 2, line 3. */
     REPEATER_TREE_OTHER_SINKS = 7,
-    /* judge, score: the parent named on this listing line is a sink. */
+    /* judge, score, delete_pin: the parent named on this listing line is a
+     * sink. */
     REPEATER_TREE_SINK_PARENT = 8,
-    /* judge, score: the root has not exactly one child (line 0), or the branch
-     * point on this line has not exactly two; the lowest such branch point. */
+    /* judge, score, delete_pin: the root has not exactly one child (line 0), or
+     * the branch point on this line has not exactly two; the lowest such branch
+     * point. */
     REPEATER_TREE_CHILDREN = 9,
-    /* judge, score: the vertex on this line is not reached from the root; the
-     * lowest such vertex. Some branch points form a ring. */
+    /* judge, score, delete_pin: the vertex on this line is not reached from the
+     * root; the lowest such vertex. Some branch points form a ring. */
     REPEATER_TREE_UNREACHED = 10,
-    /* judge, score: the slack that the listing states is not its worst slack.
-     * Text 2, line 1. */
+    /* judge, score, delete_pin: the slack that the listing states is not its
+     * worst slack. Text 2, line 1. */
     REPEATER_TREE_WRONG_SLACK = 11,
-    /* judge, score: the wire that the listing states is not its wire.
-     * Text 2, line 2. */
+    /* judge, score, delete_pin: the wire that the listing states is not its
+     * wire. Text 2, line 2. */
     REPEATER_TREE_WRONG_WIRE = 12,
     /* The sink on this line of the net stands farther from the root than
      * REPEATER_TREE_PIN_LIMIT: the net belongs to the global planner. The
@@ -114,7 +118,13 @@ enum {
      * is not 0 to REPEATER_TREE_CAP_LIMIT, or the lesser of worst slack and cap
      * is below minus REPEATER_TREE_LATE_LIMIT, also where alpha is 0. The other
      * refusals go before. Text 0, line 0. */
-    REPEATER_TREE_NOT_SCORED = 14
+    REPEATER_TREE_NOT_SCORED = 14,
+    /* delete_pin: the net has no sink of this number; its sinks are 1 to n.
+     * judge's refusals go before. Text 0, line 0. */
+    REPEATER_TREE_NOT_A_SINK = 15,
+    /* delete_pin: the net has no other sink. 15 goes before, 6 after. Text 0,
+     * line 0. */
+    REPEATER_TREE_ONLY_SINK = 16
 };
 
 /* Plans a tree of the largest possible worst slack for the net and writes its
@@ -243,6 +253,42 @@ uint8_t repeater_tree_score(const uint8_t *net, size_t net_length,
                             int64_t alpha_1024ths, int64_t beta_1024ths, int64_t cap,
                             uint8_t *text, size_t *line, double *score);
 
+/* Deletes a sink from a net and from the tree of its listing, and writes both,
+ * the shorter net to net_out and the shorter listing to listing_out. The tree is
+ * kept: the branch point on which the sink hung goes too, its other child takes
+ * its place, hanging on that branch point's parent, and no point moves. The
+ * numbers close up in their old order: the sinks above the deleted one fall by 1,
+ * the branch points below the one that goes by 1, those above it by 2.
+ *
+ * Of the net, its sinks= line and the deleted sink's line change, and nothing
+ * else. The shorter listing states its own worst slack and wire, and judge
+ * accepts it for the shorter net. No sink that remains loses slack, and the wire
+ * does not grow. The net and the listing are read, and refused, as judge does it;
+ * the net's need is read but not looked at, so 5 is never told. The same texts
+ * and sink always give the same bytes.
+ *
+ *   net, net_length                   the net text
+ *   listing, listing_length           the listing text
+ *   sink                              the sink to delete, 1 to n
+ *   net_out, net_out_length           where the shorter net goes
+ *   listing_out, listing_out_length   where the shorter listing goes
+ *   text                              the refusal's text, 0 to 2
+ *   line                              the refusal's line, 0 to 1,027
+ *   net_bytes                         the shorter net's length, 0 to 32,768
+ *   listing_bytes                     the shorter listing's length, 0 to 32,768
+ *
+ * Bytes of an output beyond its text keep their values. sink may have any value:
+ * another than 1 to n is refused by 15. Every figure is written by every call. At
+ * a refusal (1 to 4, 6 to 13, 15, 16) both lengths are 0 and no byte of either
+ * output is changed, also where one of them was long enough. */
+uint8_t repeater_tree_delete_pin(const uint8_t *net, size_t net_length,
+                                 const uint8_t *listing, size_t listing_length,
+                                 size_t sink,
+                                 uint8_t *net_out, size_t net_out_length,
+                                 uint8_t *listing_out, size_t listing_out_length,
+                                 uint8_t *text, size_t *line,
+                                 size_t *net_bytes, size_t *listing_bytes);
+
 /* The archive's functions ask for an address that is not null also where a
  * length is 0. These lend one, and the names above mean them from here on,
  * so that NULL with 0 is fine in every call and through every pointer. */
@@ -305,6 +351,25 @@ static inline uint8_t repeater_tree_score_lent(
                                text, line, score);
 }
 
+static inline uint8_t repeater_tree_delete_pin_lent(
+    const uint8_t *net, size_t net_length,
+    const uint8_t *listing, size_t listing_length,
+    size_t sink,
+    uint8_t *net_out, size_t net_out_length,
+    uint8_t *listing_out, size_t listing_out_length,
+    uint8_t *text, size_t *line,
+    size_t *net_bytes, size_t *listing_bytes) {
+    const uint8_t no_text = 0;
+    uint8_t no_net = 0, no_listing = 0;
+    return repeater_tree_delete_pin(net_length == 0 ? &no_text : net, net_length,
+                                    listing_length == 0 ? &no_text : listing, listing_length,
+                                    sink,
+                                    net_out_length == 0 ? &no_net : net_out, net_out_length,
+                                    listing_out_length == 0 ? &no_listing : listing_out,
+                                    listing_out_length,
+                                    text, line, net_bytes, listing_bytes);
+}
+
 /* A refusal in plain words, as the programs tell it on standard error. */
 static inline const char *repeater_tree_words(uint8_t number, size_t line) {
     switch (number) {
@@ -337,6 +402,10 @@ static inline const char *repeater_tree_words(uint8_t number, size_t line) {
         return "the sink is too far from the root";
     case REPEATER_TREE_NOT_SCORED:
         return "alpha, beta or the cap is out of range, or the slack too low";
+    case REPEATER_TREE_NOT_A_SINK:
+        return "the net has no sink of this number";
+    case REPEATER_TREE_ONLY_SINK:
+        return "the net has no other sink";
     default:
         return "unknown refusal";
     }
@@ -347,6 +416,7 @@ static inline const char *repeater_tree_words(uint8_t number, size_t line) {
 #define repeater_tree_plan_weighted repeater_tree_plan_weighted_lent
 #define repeater_tree_judge repeater_tree_judge_lent
 #define repeater_tree_score repeater_tree_score_lent
+#define repeater_tree_delete_pin repeater_tree_delete_pin_lent
 
 #ifdef __cplusplus
 }

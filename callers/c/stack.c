@@ -1,7 +1,7 @@
-/* Measures how much stack each plan, a judgement and a score take: each call runs
- * in a thread on a stack of our own, filled with one byte beforehand, and the
- * lowest byte that changed tells how far down the call went. Fails where a call
- * takes more than REPEATER_TREE_STACK.
+/* Measures how much stack each plan, a judgement, a score and a pin's deletion
+ * take: each call runs in a thread on a stack of our own, filled with one byte
+ * beforehand, and the lowest byte that changed tells how far down the call went.
+ * Fails where a call takes more than REPEATER_TREE_STACK.
  *
  * Build and run, from the repository's root:
  *   cc -std=c99 -pthread -o target/stack callers/c/stack.c \
@@ -22,6 +22,11 @@ static uint8_t stack[STACK_SIZE] __attribute__((aligned(4096)));
 static uint8_t net[REPEATER_TREE_NET_LENGTH];
 static uint8_t listing[REPEATER_TREE_LISTING_LENGTH];
 static size_t net_length, listing_length;
+
+/* What a deletion leaves: the lengths lent before it, those written after it. */
+static uint8_t net_left[REPEATER_TREE_NET_LENGTH];
+static uint8_t listing_left[REPEATER_TREE_LISTING_LENGTH];
+static size_t net_left_length, listing_left_length;
 
 /* The calls that plan have one shape. */
 typedef uint8_t planner(const uint8_t *, size_t, uint8_t *, size_t,
@@ -71,6 +76,19 @@ static void *score(void *given) {
     return NULL;
 }
 
+static void *delete_pin(void *given) {
+    struct job *job = given;
+    uint8_t text;
+    size_t line;
+    job->from = &text;
+    job->number = repeater_tree_delete_pin(net, net_length, listing, listing_length, 1,
+                                           net_left, net_left_length,
+                                           listing_left, listing_left_length,
+                                           &text, &line,
+                                           &net_left_length, &listing_left_length);
+    return NULL;
+}
+
 static void demand(int holds, const char *what) {
     if (!holds) {
         fprintf(stderr, "stack: %s\n", what);
@@ -90,7 +108,9 @@ static size_t used_by(void *(*run)(void *), planner *planner, size_t out_length)
                && pthread_create(&thread, &attributes, run, &job) == 0
                && pthread_join(thread, NULL) == 0,
            "no thread on a stack of our own");
-    demand(job.number == REPEATER_TREE_DONE, "a call is refused");
+    /* The only sink is not deleted; what its refusal takes counts too. */
+    demand(job.number == REPEATER_TREE_DONE || job.number == REPEATER_TREE_ONLY_SINK,
+           "a call is refused");
     while (stack[lowest] == FILL) lowest++;
     return (size_t)(job.from - &stack[lowest]);
 }
@@ -108,21 +128,26 @@ static void make_net(int sinks) {
 int main(void) {
     static const int sizes[] = {1, 16, 17, 64, 65, 512};
     size_t most = 0;
-    puts("bytes of stack:\nsinks  plan  plan, no byte to spare  judge  score  short tree"
-         "  no byte to spare  by weights  no byte to spare");
+    puts("bytes of stack:\nsinks  plan  plan, no byte to spare  judge  score  pin deleted"
+         "  no byte to spare  short tree  no byte to spare  by weights  no byte to spare");
     for (size_t i = 0; i < sizeof sizes / sizeof *sizes; i++) {
-        size_t used[8];
+        size_t used[10];
         make_net(sizes[i]);
+        net_left_length = sizeof net_left;
+        listing_left_length = sizeof listing_left;
         used[0] = used_by(plan, repeater_tree_plan, sizeof listing);
         used[1] = used_by(plan, repeater_tree_plan, listing_length);
         used[2] = used_by(judge, NULL, 0);
         used[3] = used_by(score, NULL, 0);
-        used[4] = used_by(plan, repeater_tree_plan_short, sizeof listing);
-        used[5] = used_by(plan, repeater_tree_plan_short, listing_length);
-        used[6] = used_by(plan, repeater_tree_plan_weighted, sizeof listing);
-        used[7] = used_by(plan, repeater_tree_plan_weighted, listing_length);
-        printf("%5d %6zu %22zu %6zu %6zu %11zu %16zu %11zu %16zu\n", sizes[i],
-               used[0], used[1], used[2], used[3], used[4], used[5], used[6], used[7]);
+        used[4] = used_by(delete_pin, NULL, 0);
+        used[5] = used_by(delete_pin, NULL, 0);
+        used[6] = used_by(plan, repeater_tree_plan_short, sizeof listing);
+        used[7] = used_by(plan, repeater_tree_plan_short, listing_length);
+        used[8] = used_by(plan, repeater_tree_plan_weighted, sizeof listing);
+        used[9] = used_by(plan, repeater_tree_plan_weighted, listing_length);
+        printf("%5d %6zu %22zu %6zu %6zu %12zu %16zu %11zu %16zu %11zu %16zu\n", sizes[i],
+               used[0], used[1], used[2], used[3], used[4], used[5], used[6], used[7],
+               used[8], used[9]);
         for (size_t j = 0; j < sizeof used / sizeof *used; j++)
             if (used[j] > most) most = used[j];
     }
