@@ -31,6 +31,16 @@ pub struct ScoreFigures {
     pub score: f64,
 }
 
+/// All figures of a call that deletes a pin.
+#[derive(Clone, Copy, Debug, Default, PartialEq, Eq)]
+pub struct DeletionFigures {
+    pub number: u8,
+    pub text: u8,
+    pub line: usize,
+    pub net_bytes: usize,
+    pub listing_bytes: usize,
+}
+
 extern "C" {
     fn repeater_tree_plan(
         net: *const u8,
@@ -92,6 +102,22 @@ extern "C" {
         line: *mut usize,
         score: *mut f64,
     ) -> u8;
+
+    fn repeater_tree_delete_pin(
+        net: *const u8,
+        net_length: usize,
+        listing: *const u8,
+        listing_length: usize,
+        sink: usize,
+        net_out: *mut u8,
+        net_out_length: usize,
+        listing_out: *mut u8,
+        listing_out_length: usize,
+        text: *mut u8,
+        line: *mut usize,
+        net_bytes: *mut usize,
+        listing_bytes: *mut usize,
+    ) -> u8;
 }
 
 /// A call that plans.
@@ -109,7 +135,7 @@ type Planner = unsafe extern "C" fn(
 
 fn plan_by(planner: Planner, net: &[u8], out: &mut [u8], f: &mut PlanFigures) {
     // SAFETY: slices are non-null and valid for their lengths, also when empty;
-    // the exclusive borrows keep output and figures apart from all else.
+    // the exclusive borrows keep outputs and figures apart from all else.
     f.number = unsafe {
         planner(
             net.as_ptr(),
@@ -180,6 +206,35 @@ pub fn score_figures(
             &mut f.text,
             &mut f.line,
             &mut f.score,
+        )
+    };
+}
+
+/// Deletes a pin, and overwrites every figure.
+pub fn delete_pin_figures(
+    net: &[u8],
+    listing: &[u8],
+    sink: usize,
+    net_out: &mut [u8],
+    listing_out: &mut [u8],
+    f: &mut DeletionFigures,
+) {
+    // SAFETY: as above; the two texts are only read.
+    f.number = unsafe {
+        repeater_tree_delete_pin(
+            net.as_ptr(),
+            net.len(),
+            listing.as_ptr(),
+            listing.len(),
+            sink,
+            net_out.as_mut_ptr(),
+            net_out.len(),
+            listing_out.as_mut_ptr(),
+            listing_out.len(),
+            &mut f.text,
+            &mut f.line,
+            &mut f.net_bytes,
+            &mut f.listing_bytes,
         )
     };
 }

@@ -22,15 +22,16 @@ mod calls;
 mod refusal;
 
 pub use calls::{
-    judge_figures, plan_figures, plan_short_figures, plan_weighted_figures, score_figures,
-    JudgeFigures, PlanFigures, ScoreFigures,
+    delete_pin_figures, judge_figures, plan_figures, plan_short_figures, plan_weighted_figures,
+    score_figures, DeletionFigures, JudgeFigures, PlanFigures, ScoreFigures,
 };
 pub use refusal::Refusal;
 
-/// The longest net text that is read, in bytes.
+/// The longest net text that is read, in bytes; enough for every net that
+/// [`delete_pin`] leaves.
 pub const NET_LENGTH: usize = 32_768;
 /// The longest listing that is read, in bytes; enough for every plan of any
-/// kind.
+/// kind, and for every listing that [`delete_pin`] leaves.
 pub const LISTING_LENGTH: usize = 32_768;
 /// The farthest that a sink may stand from the root, |dx| + |dy|, in
 /// nanometres. A net with a farther one is refused by number 13, on the
@@ -76,6 +77,15 @@ pub struct Measures {
     /// maximum), in attoseconds, -1,000,409,000,000,000 to
     /// 1,000,000,000,000,000.
     pub best: i64,
+}
+
+/// What a deletion leaves, at the front of its two outputs.
+#[derive(Clone, Copy, Debug, PartialEq, Eq)]
+pub struct Deletion {
+    /// Length of the shorter net, at most [`NET_LENGTH`].
+    pub net_bytes: usize,
+    /// Length of the shorter listing, at most [`LISTING_LENGTH`].
+    pub listing_bytes: usize,
 }
 
 /// Plans the net and writes the listing to the front of `out`; the bytes
@@ -193,4 +203,54 @@ pub fn score(
     score_figures(net, listing, alpha_1024ths, beta_1024ths, cap, &mut f);
     Refusal::check(f.number, f.text, f.line)?;
     Ok(f.score)
+}
+
+/// Deletes a sink from a net and from its listed tree, and writes the shorter net
+/// to the front of `net_out` and the shorter listing to the front of
+/// `listing_out`; the bytes beyond them, and all of both outputs at a refusal,
+/// keep their values. The tree is kept: the branch point on which the sink hung
+/// goes too, its other child takes its place, and no point moves. The numbers
+/// close up in their old order: the sinks above the deleted one fall by 1, the
+/// branch points below the one that goes by 1, those above it by 2.
+///
+/// Of the net, its `sinks=` line and the deleted sink's line change, and nothing
+/// else. The shorter listing states its own worst slack and wire, and [`judge`]
+/// accepts it for the shorter net. No sink that remains loses slack, and the wire
+/// does not grow.
+///
+/// The sink may have any value: another than 1 to n is refused by number 15, and
+/// the only sink of a net by number 16. [`judge`]'s refusals go before; 6 comes
+/// last, where either output is shorter than its text. The net's need is not
+/// looked at, so refusal 5 is never given.
+///
+/// ```
+/// let net = b"root=0,0\nbranch=20\nwire=1,1\nneed=0\nsinks=2\nsink=9,0,40,1\nsink=9,5,40,1\n";
+/// let listing = b"slack=6\nwire=14\nsinks=2\nleaf=1,3\nleaf=2,3\nnode=3,0,9,0\n";
+/// let mut net_out = [0; repeater_tree::NET_LENGTH];
+/// let mut out = [0; repeater_tree::LISTING_LENGTH];
+/// let left = repeater_tree::delete_pin(net, listing, 1, &mut net_out, &mut out).unwrap();
+/// let (net_left, left) = (&net_out[..left.net_bytes], &out[..left.listing_bytes]);
+/// // The second pin is the first now, and hangs on the root: 26 of its 40
+/// // attoseconds are left.
+/// assert_eq!(net_left, b"root=0,0\nbranch=20\nwire=1,1\nneed=0\nsinks=1\nsink=9,5,40,1\n");
+/// assert_eq!(left, b"slack=26\nwire=14\nsinks=1\nleaf=1,0\n");
+/// assert_eq!(repeater_tree::judge(net_left, left).unwrap().slack, 26);
+///
+/// let refusal = repeater_tree::delete_pin(net, listing, 3, &mut [], &mut []).unwrap_err();
+/// assert_eq!((refusal.number, refusal.text, refusal.line), (15, 0, 0));
+/// ```
+pub fn delete_pin(
+    net: &[u8],
+    listing: &[u8],
+    sink: usize,
+    net_out: &mut [u8],
+    listing_out: &mut [u8],
+) -> Result<Deletion, Refusal> {
+    let mut f = DeletionFigures::default();
+    delete_pin_figures(net, listing, sink, net_out, listing_out, &mut f);
+    Refusal::check(f.number, f.text, f.line)?;
+    Ok(Deletion {
+        net_bytes: f.net_bytes,
+        listing_bytes: f.listing_bytes,
+    })
 }

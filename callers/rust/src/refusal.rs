@@ -2,10 +2,10 @@
 
 use std::fmt;
 
-/// Why nothing was planned, measured or scored.
+/// Why nothing was planned, measured, scored or deleted.
 #[derive(Clone, Copy, Debug, PartialEq, Eq)]
 pub struct Refusal {
-    /// 1 to 14.
+    /// 1 to 16.
     pub number: u8,
     /// 1 the net, 2 the listing, 0 neither.
     pub text: u8,
@@ -38,17 +38,22 @@ impl Refusal {
             (12, _) => "the stated wire is not the tree's wire",
             (13, _) => "the sink is too far from the root",
             (14, _) => "alpha, beta or the cap is out of range, or the slack too low",
+            (15, _) => "the net has no sink of this number",
+            (16, _) => "the net has no other sink",
             _ => "unknown refusal",
         }
     }
 
-    /// What is refused: a text, else the output or the score.
+    /// What is refused: a text, else the output, the score or the sink.
     fn subject(&self) -> &'static str {
         match self.text {
             1 => "net",
             2 => "listing",
-            _ if self.number == 14 => "score",
-            _ => "output",
+            _ => match self.number {
+                14 => "score",
+                15 | 16 => "sink",
+                _ => "output",
+            },
         }
     }
 }
