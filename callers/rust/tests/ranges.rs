@@ -1,8 +1,9 @@
 //! Each end of the ranges of plan's, judge's and score's figures is reached, and
-//! the most wire of a plan by weights.
+//! the most wire of a plan by weights; pins are deleted from the trees at the ends.
 
 use repeater_tree::{
-    judge, plan, plan_weighted, score, Measures, CAP_LIMIT, LATE_LIMIT, LISTING_LENGTH, PARTS,
+    delete_pin, judge, plan, plan_weighted, score, Measures, CAP_LIMIT, LATE_LIMIT, LISTING_LENGTH,
+    NET_LENGTH, PARTS,
 };
 
 const CORNER: i64 = -100_000_000;
@@ -60,21 +61,27 @@ fn edges_above(parents: &[usize], k: usize) -> usize {
     std::iter::successors(Some(k), |&k| Some(parents[k - 1]).filter(|&p| p > 0)).count()
 }
 
+/// The wire of the tree below: its 511 branch points and 257 of its sinks.
+const DEEP_WIRE: u64 = 400_000_000 * (511 + 257);
+
 /// On a path whose 511 branch points stand in the two corners by turns the last
 /// sinks are reached by 512 edges from corner to corner. Half of the sinks hang
 /// on a branch point in their own corner.
-#[test]
-fn the_lowest_slack() {
-    let net = net(512, CORNER, -1_000_000_000_000_000);
+fn deepest() -> Vec<u8> {
     let mut parents: Vec<usize> = (513..=1023).collect();
     parents.push(1023);
     parents.push(0);
     parents.extend(513..1023);
-    let wire = 400_000_000 * (511 + 257);
-    let measures = judge(&net, &listing(-3_048_511_000_000_000, wire, &parents)).unwrap();
+    listing(-3_048_511_000_000_000, DEEP_WIRE, &parents)
+}
+
+#[test]
+fn the_lowest_slack() {
+    let net = net(512, CORNER, -1_000_000_000_000_000);
+    let measures = judge(&net, &deepest()).unwrap();
     assert_eq!(
         (measures.slack, measures.wire),
-        (-3_048_511_000_000_000, wire)
+        (-3_048_511_000_000_000, DEEP_WIRE)
     );
 }
 
@@ -94,6 +101,32 @@ fn longest(slack: i64) -> Vec<u8> {
 fn the_longest_wire() {
     let measures = judge(&net(512, CORNER, 0), &longest(-LOST)).unwrap();
     assert_eq!(measures.wire, 409_200_000_000);
+}
+
+/// Slack and wire of the tree that is left.
+fn left(net: &[u8], listing: &[u8], sink: usize) -> (i64, u64) {
+    let (mut net_out, mut out) = ([0; NET_LENGTH], [0; LISTING_LENGTH]);
+    let left = delete_pin(net, listing, sink, &mut net_out, &mut out).unwrap();
+    let (net, listing) = (&net_out[..left.net_bytes], &out[..left.listing_bytes]);
+    let measures = judge(net, listing).unwrap();
+    (measures.slack, measures.wire)
+}
+
+/// The last sink's branch point stands in the opposite corner: it goes, with its
+/// edge and those of its two sinks, and the one that is left hangs on a branch
+/// point in its own corner, past 510 of them. In the longest tree it is the same
+/// with any sink, and all but its sibling are as late as before.
+#[test]
+fn pins_deleted_at_the_ends() {
+    let late = net(512, CORNER, -1_000_000_000_000_000);
+    let slack = -1_000_000_000_000_000 - 510 * (10_000 * 400_000_000 + 1_000_000_000);
+    let edges = 3 * 400_000_000;
+    let found = left(&late, &deepest(), 512);
+    assert_eq!(found, (slack, DEEP_WIRE - edges));
+    for sink in [1, 2, 300, 512] {
+        let found = left(&net(512, CORNER, 0), &longest(-LOST), sink);
+        assert_eq!(found, (-LOST, 409_200_000_000 - edges));
+    }
 }
 
 /// The lowest slack that is scored, with the longest wire; and the largest cap,
