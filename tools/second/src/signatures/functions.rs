@@ -110,7 +110,7 @@ fn rust_parameter(name: &str, kind: &[String]) -> Vec<Parameter> {
 }
 
 /// `&T` is `*const T`, `&mut T` is `*mut T`; `&[T]` and `&mut [T]` are such a
-/// pointer, then the length.
+/// pointer, then the length; any other type goes by value.
 fn rattle_parameter(name: &str, kind: &[String]) -> Vec<Parameter> {
     let words: Vec<&str> = kind.iter().map(String::as_str).collect();
     let lent = |share: &str, of: &str| (name.to_string(), format!("*{share} {of}"));

@@ -28,6 +28,8 @@ fn planted_behind(before: &str, file: File, old: &str, new: &str) -> Vec<String>
 
 /// What stands before the first function that is called from outside.
 const EXPORTED: &str = "extern \"C\" fn ";
+/// And before the one with two outputs, and a value between them and the texts.
+const DELETION: &str = "fn repeater_tree_delete_pin(";
 
 /// A file to plant in, for each of these.
 macro_rules! files {
@@ -82,7 +84,7 @@ fn the_sources_agree() {
     assert!(report.limits >= 8);
     assert_eq!(report.places, 10);
     // one for each refusal, two for the wrong number of children
-    assert_eq!(report.wordings, 15);
+    assert_eq!(report.wordings, 17);
 }
 
 #[test]
@@ -102,12 +104,16 @@ fn other_words_are_told() {
     let twice = planted(words, "a number is out of range", "a number is too large");
     assert_eq!(twice.len(), 2, "{twice:?}");
     told(
-        planted(refusals, "(14, _) =>", "(15, _) =>"),
-        "refusal 14 is None",
+        planted(refusals, "(16, _) =>", "(17, _) =>"),
+        "refusal 16 is None",
     );
     told(
-        planted(header, "case REPEATER_TREE_NOT_SCORED:", "case 14:"),
-        "refusal 14 is None",
+        planted(header, "case REPEATER_TREE_ONLY_SINK:", "case 16:"),
+        "refusal 16 is None",
+    );
+    told(
+        planted(header, "NOT_A_SINK = 15", "NOT_A_SINK = 14"),
+        "callers/c/repeater_tree.h: refusal 15 is None",
     );
 }
 
@@ -128,7 +134,8 @@ fn another_order_is_told() {
         "line: *mut usize,\n        text: *mut u8,",
     );
     told(swapped, "has `line: *mut usize` where");
-    for name in ["repeater_tree_judge", "repeater_tree_score"] {
+    for call in ["judge", "score", "delete_pin"] {
+        let name = format!("repeater_tree_{call}");
         let swapped = planted_behind(
             &format!("fn {name}("),
             library,
@@ -143,6 +150,33 @@ fn another_order_is_told() {
         "int64_t beta_1024ths, int64_t alpha_1024ths",
     );
     told(swapped, "has `beta_1024ths: i64` where");
+}
+
+/// Its two outputs, its two lengths, and the sink behind the outputs.
+#[test]
+fn another_order_of_a_deletion_is_told() {
+    let swapped = planted_behind(
+        DELETION,
+        library,
+        "net_out: &mut [u8],\n    listing_out: &mut [u8],",
+        "listing_out: &mut [u8],\n    net_out: &mut [u8],",
+    );
+    told(swapped, "repeater_tree_delete_pin has `net_out: *mut u8`");
+    let swapped = planted(
+        header,
+        "size_t *net_bytes, size_t *listing_bytes",
+        "size_t *listing_bytes, size_t *net_bytes",
+    );
+    told(swapped, "has `listing_bytes: *mut usize` where");
+    let behind = planted(
+        calls,
+        "sink: usize,\n        net_out: *mut u8,\n        net_out_length: usize,",
+        "net_out: *mut u8,\n        net_out_length: usize,\n        sink: usize,",
+    );
+    told(
+        behind,
+        "has `net_out: *mut u8` where crates/repeater_tree/src/lib.rt has `sink: usize`",
+    );
 }
 
 #[test]
@@ -184,6 +218,10 @@ fn another_type_is_told() {
         "`score: *mut f32`",
     );
     told(
+        planted(calls, "sink: usize", "sink: u32"),
+        "`sink: u32` where crates/repeater_tree/src/lib.rt has `sink: usize`",
+    );
+    told(
         planted(header, "int64_t cap", "int64_t *cap"),
         "`cap: *mut i64`",
     );
@@ -194,6 +232,22 @@ fn another_type_is_told() {
     told(
         planted(header, "double *score", "float *score"),
         "`score: *mut float` where crates/repeater_tree/src/lib.rt has `score: *mut f64`",
+    );
+    told(
+        planted(header, "size_t sink", "int64_t sink"),
+        "`sink: i64` where crates/repeater_tree/src/lib.rt has `sink: usize`",
+    );
+    told(
+        planted(header, "size_t sink", "size_t *sink"),
+        "`sink: *mut usize`",
+    );
+    told(
+        planted_behind(DELETION, library, "sink: usize", "sink: &usize"),
+        "`sink: usize` where crates/repeater_tree/src/lib.rt has `sink: *const usize`",
+    );
+    told(
+        planted_behind(DELETION, library, "net_out: &mut [u8]", "net_out: &[u8]"),
+        "has `net_out: *const u8`",
     );
     told(
         planted_behind(EXPORTED, library, "out: &mut [u8]", "out: &[u8]"),
