@@ -260,12 +260,12 @@ uint8_t repeater_tree_score(const uint8_t *net, size_t net_length,
  * numbers close up in their old order: the sinks above the deleted one fall by 1,
  * the branch points below the one that goes by 1, those above it by 2.
  *
- * Of the net, its sinks= line and the deleted sink's line change, and nothing
- * else. The shorter listing states its own worst slack and wire, and judge
- * accepts it for the shorter net. No sink that remains loses slack, and the wire
- * does not grow. The net and the listing are read, and refused, as judge does it;
- * the net's need is read but not looked at, so 5 is never told. The same texts
- * and sink always give the same bytes.
+ * The shorter net is the net with one less on its sinks= line and without the
+ * deleted sink's line. The shorter listing states its own worst slack and wire,
+ * and judge accepts it for the shorter net. No sink that remains loses slack, and
+ * the wire does not grow. The net and the listing are read, and refused, as judge
+ * does it; the net's need is read but not looked at, so 5 is never told. The same
+ * texts and sink always give the same bytes.
  *
  *   net, net_length                   the net text
  *   listing, listing_length           the listing text

@@ -213,10 +213,10 @@ pub fn score(
 /// close up in their old order: the sinks above the deleted one fall by 1, the
 /// branch points below the one that goes by 1, those above it by 2.
 ///
-/// Of the net, its `sinks=` line and the deleted sink's line change, and nothing
-/// else. The shorter listing states its own worst slack and wire, and [`judge`]
-/// accepts it for the shorter net. No sink that remains loses slack, and the wire
-/// does not grow.
+/// The shorter net is the net with one less on its `sinks=` line and without the
+/// deleted sink's line. The shorter listing states its own worst slack and wire,
+/// and [`judge`] accepts it for the shorter net. No sink that remains loses slack,
+/// and the wire does not grow.
 ///
 /// The sink may have any value: another than 1 to n is refused by number 15, and
 /// the only sink of a net by number 16. [`judge`]'s refusals go before; 6 comes
