@@ -14,7 +14,7 @@ use writing::listing_length::listing_length;
 use writing::write_listing::write_listing;
 
 // Whether the listing fits into so many bytes. It is counted only where some listing would not.
-fn has_room(
+pub fn has_room(
     room: usize,
     slack: Time,
     wire: Length,

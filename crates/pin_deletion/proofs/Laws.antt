@@ -8,3 +8,4 @@ pub mod Closing
 pub mod HeldShorter
 pub mod ShorterInRange
 pub mod Shortened
+pub mod Deletions

@@ -1,6 +1,6 @@
 -- What the deletion of a pin answers, for all bytes: 02, request 9. Definitions alone.
 use Prim.Native.Nat.{ℕ}
-use mathlib.Core.Bool.{true, false, _&&_, _||_}
+use mathlib.Core.Bool.{Bool, true, false, _&&_, _||_}
 use mathlib.Core.List.{List, []}
 use lib.ListN.{length}
 use lib.Dec.{eqb, ltb, leb}
@@ -36,10 +36,14 @@ shorter N w T s = record {
 abbrev pub bothFit : Shorter → ℕ → ℕ → Outcome Shorter
 bothFit t netRoom listingRoom = elim (ltb netRoom (length (t .net)) || ltb listingRoom (length (t .listing))) [ true ↦ refused TooShort | false ↦ value t ]
 
+-- "the sink number is .. 1 to n"
+unfoldable pub isSink : ℕ → ℕ → Bool
+isSink n s = leb 1 s && leb s n
+
 -- "Turned away: 15 .. if the sink number is not 1 to n; 16, likewise, if n is 1; they are tried in this order after judge's refusals, then 6"
 abbrev pub deleted : Net → List ℕ → Tree → ℕ → ℕ → ℕ → Outcome Shorter
 deleted N w T s netRoom listingRoom =
-    elim (leb 1 s && leb s (size N)) [
+    elim (isSink (size N) s) [
       | true ↦ elim (eqb (size N) 1) [ true ↦ refused OnlySink | false ↦ bothFit (shorter N w T s) netRoom listingRoom ]
       | false ↦ refused NotASink
     ]

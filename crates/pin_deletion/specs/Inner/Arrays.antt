@@ -16,7 +16,7 @@ use Rattle.tree.specs.Inner.Arrays.{netOf, treeOf, weightsOf, parentsOf, HoldsN
 use Rattle.formats.specs.Outcome.{Outcome, andThen}
 use Rattle.formats.specs.ListingText.{listingText}
 use Rattle.formats.specs.Inner.ListingReader.{listingHeld}
-use Rattle.formats.specs.NetText.{netText}
+use Rattle.writing.specs.Inner.NetWriting.{netHeldText}
 use Rattle.operations.specs.Accepting.{acceptListing}
 use Rattle.operations.specs.Answers.{overwritten}
 use Rattle.pin_deletion.specs.Deletion.{without, weightsWithout, pruned}
@@ -53,7 +53,7 @@ pub record HoldsShorter (n s : ℕ) (ps : List ℕ) (xs ys rs ws : List ℤ) (ps
 
 -- the texts of the net and the tree in the arrays
 abbrev pub textsHeld : Header → Time → Length → ℕ → List ℕ → List ℤ → List ℤ → List ℤ → List ℤ → Shorter
-textsHeld h slack wire n ps xs ys rs ws = record { net = netText (netOf h n xs ys rs) (weightsOf n ws); listing = listingText n (listingHeld slack wire n ps xs ys) }
+textsHeld h slack wire n ps xs ys rs ws = record { net = netHeldText h n xs ys rs ws; listing = listingText n (listingHeld slack wire n ps xs ys) }
 
 -- the slack of the tree in the arrays is in the range of a listing, as that of an accepted one is
 abbrev pub SlackInRange : Header → ℕ → List ℕ → List ℤ → List ℤ → List ℤ → Type 0
