@@ -84,3 +84,30 @@ impl Score {
         }
     }
 }
+
+/// All figures of a deletion. At a refusal the last two are 0, otherwise the
+/// first three.
+#[derive(Clone, Copy, Debug, PartialEq, Eq)]
+pub struct Deletion {
+    pub number: u8,
+    pub text: u8,
+    pub line: usize,
+    pub net_bytes: usize,
+    pub listing_bytes: usize,
+}
+
+impl Deletion {
+    pub fn of(result: Result<(usize, usize), Refusal>) -> Deletion {
+        let (refusal, (net_bytes, listing_bytes)) = match result {
+            Ok(bytes) => (NONE, bytes),
+            Err(refusal) => (refusal, (0, 0)),
+        };
+        Deletion {
+            number: refusal.number,
+            text: refusal.text,
+            line: refusal.line,
+            net_bytes,
+            listing_bytes,
+        }
+    }
+}

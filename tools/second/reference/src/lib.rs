@@ -1,5 +1,5 @@
-//! All three plans, judge and score, written twice from the order alone, and the
-//! first plan once more in request 3's order of work.
+//! All three plans, judge, score and the deletion of a pin, written twice from the
+//! order alone, and the first plan once more in request 3's order of work.
 //!
 //! `slow` does what the order says word by word: it builds and measures every
 //! candidate tree, and takes the Kraft maximum from its definition.
@@ -11,11 +11,13 @@
 //! weight × delay is no less.
 //! `score` is the router's score word by word, whose bits `binary64` puts together
 //! by whole numbers alone.
-//! `plain` is what a competent engineer would write, all plans, judge and score; it
-//! shares nothing with these but the form of the answer.
+//! `deletion` is a pin's deletion word by word.
+//! `plain` is what a competent engineer would write, all plans, judge, score and
+//! deletion; it shares nothing with these but the form of the answer.
 
 pub mod answer;
 pub mod binary64;
+pub mod deletion;
 pub mod gathered;
 pub mod insertion;
 pub mod kraft;
@@ -32,6 +34,8 @@ pub mod terms;
 pub mod tree;
 pub mod weighted;
 
+#[cfg(test)]
+mod deletion_tests;
 #[cfg(test)]
 mod marked_tests;
 #[cfg(test)]

@@ -1,7 +1,9 @@
-//! All three plans, judge and score as a competent engineer would write them,
-//! quadratic in the sinks, the short tree on most nets, the third plan and the
-//! score less: the reference for large nets and the baseline of the benchmark.
+//! All three plans, judge, score and the deletion of a pin as a competent engineer
+//! would write them, quadratic in the sinks, the short tree on most nets, the third
+//! plan, the score and the deletion less: the reference for large nets and the
+//! baseline of the benchmark.
 
+mod delete;
 mod grow;
 mod read;
 mod score;
@@ -10,7 +12,7 @@ mod text;
 mod tree;
 mod weighted;
 
-use crate::answer::{Answer, Refusal, Score};
+use crate::answer::{Answer, Deletion, Refusal, Score};
 use crate::terms::Terms;
 use read::Point;
 
@@ -96,8 +98,14 @@ fn try_judge(net: &[u8], listing: &[u8]) -> Result<(i64, u64, i64), Refusal> {
     Ok((slack, wire as u64, grow::best(&net)))
 }
 
-/// Slack and wire as the listing states them, if it is legal and they are true.
+/// Slack and wire of a listing that is accepted.
 fn measured(net: &read::Net, listing: &[u8]) -> Result<(i64, i64), Refusal> {
+    let listing = accepted(net, listing)?;
+    Ok((listing.slack, listing.wire))
+}
+
+/// The listing, if it is legal and states its slack and wire as they are.
+fn accepted(net: &read::Net, listing: &[u8]) -> Result<read::Listing, Refusal> {
     let listing = read::listing(listing, net)?;
     let order = tree::top_down(net.sinks(), &listing.parent)?;
     let slack = tree::worst_slack(net, &listing.parent, &listing.points, &order);
@@ -116,7 +124,7 @@ fn measured(net: &read::Net, listing: &[u8]) -> Result<(i64, i64), Refusal> {
             line: 2,
         });
     }
-    Ok((slack, wire))
+    Ok(listing)
 }
 
 /// The router's score.
@@ -128,4 +136,36 @@ fn try_score(net: &[u8], listing: &[u8], terms: Terms) -> Result<f64, Refusal> {
     let net = read::net(net)?;
     let (slack, wire) = measured(&net, listing)?;
     score::score(slack, wire, terms)
+}
+
+/// The deletion of a pin.
+pub fn delete_pin(
+    net: &[u8],
+    listing: &[u8],
+    sink: usize,
+    net_out: &mut [u8],
+    listing_out: &mut [u8],
+) -> Deletion {
+    let texts = try_delete_pin(net, listing, sink);
+    Deletion::of(texts.and_then(|(net, listing)| {
+        if net_out.len() < net.len() || listing_out.len() < listing.len() {
+            return delete::refuse(6);
+        }
+        net_out[..net.len()].copy_from_slice(&net);
+        listing_out[..listing.len()].copy_from_slice(&listing);
+        Ok((net.len(), listing.len()))
+    }))
+}
+
+/// The shorter net's text and its listing's.
+fn try_delete_pin(net: &[u8], listing: &[u8], sink: usize) -> Result<(Vec<u8>, Vec<u8>), Refusal> {
+    let mut net = read::net(net)?;
+    let mut tree = accepted(&net, listing)?;
+    delete::delete(&mut net, &mut tree, sink)?;
+    let read::Listing { parent, points, .. } = tree;
+    let order = tree::top_down(net.sinks(), &parent).expect("what is left is legal");
+    let slack = tree::worst_slack(&net, &parent, &points, &order);
+    let wire = tree::wire(&parent, &points);
+    let listing = text::listing(slack, wire, &parent, &points);
+    Ok((text::net(&net), listing))
 }

@@ -1,6 +1,6 @@
-//! The listing's text.
+//! The listing's text and the net's.
 
-use super::read::Point;
+use super::read::{Net, Point};
 
 pub fn listing(slack: i64, wire: i64, parent: &[usize], points: &[Point]) -> Vec<u8> {
     let n = parent.len() / 2;
@@ -19,6 +19,26 @@ pub fn listing(slack: i64, wire: i64, parent: &[usize], points: &[Point]) -> Vec
             put(&mut text, b",", points[k].0);
             put(&mut text, b",", points[k].1);
         }
+    }
+    text.push(b'\n');
+    text
+}
+
+pub fn net(net: &Net) -> Vec<u8> {
+    let n = net.sinks();
+    let mut text = Vec::with_capacity(40 * n + 100);
+    put(&mut text, b"root=", net.points[0].0);
+    put(&mut text, b",", net.points[0].1);
+    put(&mut text, b"\nbranch=", net.branch);
+    put(&mut text, b"\nwire=", net.wire.horizontal);
+    put(&mut text, b",", net.wire.vertical);
+    put(&mut text, b"\nneed=", net.need);
+    put(&mut text, b"\nsinks=", n as i64);
+    for k in 1..=n {
+        put(&mut text, b"\nsink=", net.points[k].0);
+        put(&mut text, b",", net.points[k].1);
+        put(&mut text, b",", net.arrivals[k]);
+        put(&mut text, b",", net.weights[k]);
     }
     text.push(b'\n');
     text
