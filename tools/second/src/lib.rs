@@ -3,6 +3,7 @@
 
 pub mod damage;
 pub mod decided;
+pub mod deletions;
 pub mod due;
 pub mod kinds;
 pub mod library;
@@ -15,6 +16,7 @@ pub mod printed;
 pub mod programs;
 pub mod random;
 pub mod ranges;
+pub mod remaining;
 pub mod scaled;
 pub mod scores;
 pub mod session;

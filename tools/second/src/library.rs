@@ -1,8 +1,9 @@
 //! The library's calls in the form of the reference's answers.
 
-use repeater_tree::{judge_figures, plan_figures, plan_short_figures, plan_weighted_figures};
-use repeater_tree::{score_figures, JudgeFigures, PlanFigures, ScoreFigures};
-use second_reference::answer::{Answer, Score};
+use repeater_tree::{delete_pin_figures, judge_figures, score_figures};
+use repeater_tree::{plan_figures, plan_short_figures, plan_weighted_figures};
+use repeater_tree::{DeletionFigures, JudgeFigures, PlanFigures, ScoreFigures};
+use second_reference::answer::{Answer, Deletion, Score};
 use second_reference::terms::Terms;
 
 /// The first plan.
@@ -77,5 +78,30 @@ pub fn score(net: &[u8], listing: &[u8], terms: Terms) -> Score {
         text: f.text,
         line: f.line,
         bits: f.score.to_bits(),
+    }
+}
+
+/// The deletion of a pin.
+pub fn delete_pin(
+    net: &[u8],
+    listing: &[u8],
+    sink: usize,
+    net_out: &mut [u8],
+    listing_out: &mut [u8],
+) -> Deletion {
+    let mut f = DeletionFigures {
+        number: 99,
+        text: 99,
+        line: 99,
+        net_bytes: 99_999,
+        listing_bytes: 99_999,
+    };
+    delete_pin_figures(net, listing, sink, net_out, listing_out, &mut f);
+    Deletion {
+        number: f.number,
+        text: f.text,
+        line: f.line,
+        net_bytes: f.net_bytes,
+        listing_bytes: f.listing_bytes,
     }
 }

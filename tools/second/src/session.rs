@@ -2,6 +2,7 @@
 //! every disagreement so that it can be replayed.
 
 use crate::decided::Decided;
+use crate::deletions::Deletions;
 use crate::library;
 use crate::planners::{Planner, GATHERED, PLAIN, SLOW};
 use crate::scores::Scores;
@@ -19,11 +20,11 @@ use std::collections::BTreeMap;
 pub(crate) const GUARD: usize = 64;
 /// Enough to see what is wrong without flooding the screen.
 const MOST_PRINTED: u64 = 20;
-const LAST_NUMBER: u8 = 14;
+const LAST_NUMBER: u8 = 16;
 /// Gathering takes long on large nets: one case in so many has them.
 const LARGE_GATHERED: u64 = 8;
 
-/// What was compared. Only the first five run the library.
+/// What was compared. Only the first six run the library.
 #[derive(Clone, Copy, Debug, Default)]
 pub struct Counts {
     /// First plans.
@@ -34,6 +35,8 @@ pub struct Counts {
     pub weighted: u64,
     pub judgements: u64,
     pub scores: u64,
+    /// Deletions of a pin, refused ones too.
+    pub deleted: u64,
     /// Runs of the programs.
     pub runs: u64,
     /// Rival trees that the tool measures itself, against the library's best.
@@ -51,7 +54,8 @@ pub struct Counts {
 
 impl Counts {
     pub fn calls(&self) -> u64 {
-        self.plans + self.shorts + self.weighted + self.judgements + self.scores
+        let plans = self.plans + self.shorts + self.weighted;
+        plans + self.judgements + self.scores + self.deleted
     }
 
     pub fn own(&self) -> u64 {
@@ -64,6 +68,7 @@ impl Counts {
         self.weighted += other.weighted;
         self.judgements += other.judgements;
         self.scores += other.scores;
+        self.deleted += other.deleted;
         self.runs += other.runs;
         self.rivals += other.rivals;
         self.gathered += other.gathered;
@@ -91,8 +96,8 @@ pub struct Session {
     /// By kind of case.
     pub counts: BTreeMap<&'static str, Counts>,
     /// Answers by the refusal's number: of plan, of judge, of the short tree, of
-    /// the third plan, of score.
-    pub numbers: [[u64; LAST_NUMBER as usize + 1]; 5],
+    /// the third plan, of score, of the deletion of a pin.
+    pub numbers: [[u64; LAST_NUMBER as usize + 1]; 6],
     /// Plans in which an edge above a branch point was split.
     pub split_above_branch_point: u64,
     /// Plans of nets with a pin just at the limit, and at an end of the range.
@@ -108,6 +113,7 @@ pub struct Session {
     pub shorts: Shorts,
     pub weighted: Weighted,
     pub scores: Scores,
+    pub deletions: Deletions,
 }
 
 /// What a plan left in the output, beside its figures.

@@ -90,23 +90,40 @@ fn nothing_ran(s: &Session) -> bool {
 /// The last line says what was compared, each count of its own.
 fn print_counts(s: &Session) {
     println!(
-        "{:>16} {:>9} {:>9} {:>9} {:>9} {:>9} {:>9} {:>9} {:>9}",
-        "kind of case", "plans", "short", "weighted", "judged", "scores", "runs", "own", "disagree"
+        "{:>16} {:>9} {:>9} {:>9} {:>9} {:>9} {:>9} {:>9} {:>9} {:>9}",
+        "kind of case",
+        "plans",
+        "short",
+        "weighted",
+        "judged",
+        "scores",
+        "deleted",
+        "runs",
+        "own",
+        "disagree"
     );
     for (kind, counts) in &s.counts {
         println!(
-            "{kind:>16} {:>9} {:>9} {:>9} {:>9} {:>9} {:>9} {:>9} {:>9}",
+            "{kind:>16} {:>9} {:>9} {:>9} {:>9} {:>9} {:>9} {:>9} {:>9} {:>9}",
             counts.plans,
             counts.shorts,
             counts.weighted,
             counts.judgements,
             counts.scores,
+            counts.deleted,
             counts.runs,
             counts.own(),
             counts.disagreements
         );
     }
-    let calls = ["plan", "judge", "plan_short", "plan_weighted", "score"];
+    let calls = [
+        "plan",
+        "judge",
+        "plan_short",
+        "plan_weighted",
+        "score",
+        "delete_pin",
+    ];
     for (call, numbers) in calls.iter().zip(&s.numbers) {
         let last = numbers.len() - 1;
         println!("{call} answers by number, 0 to {last}: {numbers:?}");
@@ -156,6 +173,20 @@ fn print_counts(s: &Session) {
          negative slack; {} refused by 14, {} of them for a low slack alone",
         scores.given, scores.capped, scores.zero, scores.of_negative, scores.refused, scores.low
     );
+    let deletions = &s.deletions;
+    println!(
+        "deletions: {} given; in {} of them the branch point hung on the root, in {} the sibling was \
+         a sink, in {} a branch point; {} refused by 15, {} by 16, {} by 6; {} nets went down to one \
+         sink",
+        deletions.given,
+        deletions.on_root,
+        deletions.beside_sink,
+        deletions.beside_branch_point,
+        deletions.no_sink,
+        deletions.last_sink,
+        deletions.too_short,
+        deletions.chains
+    );
     let total = s.total();
     println!(
         "measured by the tool itself: {} rival trees against the library's best; on {} nets \
@@ -172,13 +203,14 @@ fn print_counts(s: &Session) {
     );
     println!(
         "compared {} calls of the library ({} plans, {} short trees, {} third plans, {} judgements, \
-         {} scores) and {} runs of the programs; {} disagreements",
+         {} scores, {} deletions) and {} runs of the programs; {} disagreements",
         total.calls(),
         total.plans,
         total.shorts,
         total.weighted,
         total.judgements,
         total.scores,
+        total.deleted,
         total.runs,
         total.disagreements
     );
