@@ -1,10 +1,11 @@
 //! A pin's deletion in a session: the library's against the references', and
 //! against what request 9 says of every one.
 
+use crate::deleted::{Delete, Deleted, Room};
 use crate::library;
 use crate::remaining::{self, Read};
 use crate::scores::Judged;
-use crate::session::{fill, Session, GUARD};
+use crate::session::Session;
 use second_reference::answer::{Deletion, Refusal};
 use second_reference::net::Net;
 use second_reference::{deletion, plain};
@@ -27,74 +28,20 @@ pub struct Deletions {
     pub chains: u64,
 }
 
-/// How many bytes are lent for the shorter net and for its listing.
-#[derive(Clone, Copy, Debug)]
-pub struct Room {
-    pub net: usize,
-    pub listing: usize,
-}
-
-impl Room {
-    pub fn new(net: usize, listing: usize) -> Room {
-        Room { net, listing }
-    }
-
-    /// As much as the texts before have: enough, since both get shorter.
-    pub fn as_before(judged: &Judged) -> Room {
-        Room::new(judged.net.len(), judged.listing.len())
-    }
-}
-
-/// What a deletion left in both outputs, beside its figures. Past either there is
-/// a guard, which was not lent.
-#[derive(PartialEq, Eq)]
-pub struct Deleted {
-    pub answer: Deletion,
-    net_out: Vec<u8>,
-    listing_out: Vec<u8>,
-}
-
-type Delete = fn(&[u8], &[u8], usize, &mut [u8], &mut [u8]) -> Deletion;
-
-impl Deleted {
-    fn by(delete: Delete, judged: &Judged, sink: usize, room: Room) -> Deleted {
-        let (mut net_out, mut listing_out) = (fill(room.net + GUARD), fill(room.listing + GUARD));
-        let answer = delete(
-            &judged.net,
-            &judged.listing,
-            sink,
-            &mut net_out[..room.net],
-            &mut listing_out[..room.listing],
-        );
-        Deleted {
-            answer,
-            net_out,
-            listing_out,
+impl Deletions {
+    /// Where the sink hung, if there was one.
+    fn count_place(&mut self, before: &Read, sink: usize) {
+        let n = before.net.sinks.len();
+        if sink > n {
+            return;
+        }
+        let above = before.tree.parent[before.branch_point(sink)];
+        self.on_root += u64::from(above == 0);
+        match before.sibling(sink) {
+            Some(v) if v <= n => self.beside_sink += 1,
+            _ => self.beside_branch_point += 1,
         }
     }
-
-    pub fn net(&self) -> &[u8] {
-        front(&self.net_out, self.answer.net_bytes)
-    }
-
-    pub fn listing(&self) -> &[u8] {
-        front(&self.listing_out, self.answer.listing_bytes)
-    }
-
-    /// "bytes beyond them keep their values"; at a refusal all do.
-    fn is_kept_beyond(&self) -> bool {
-        is_kept_from(&self.net_out, self.answer.net_bytes)
-            && is_kept_from(&self.listing_out, self.answer.listing_bytes)
-    }
-}
-
-/// Also where more bytes are told than the output has.
-fn front(out: &[u8], bytes: usize) -> &[u8] {
-    &out[..bytes.min(out.len())]
-}
-
-fn is_kept_from(out: &[u8], bytes: usize) -> bool {
-    bytes <= out.len() && out[bytes..] == fill(out.len())[bytes..]
 }
 
 impl Session {
@@ -104,7 +51,7 @@ impl Session {
         self.count().deleted += 1;
         let got = Deleted::by(library::delete_pin, judged, sink, room);
         self.count_number(5, got.answer.number);
-        self.count_refused(got.answer.number);
+        self.count_deletion(judged, sink, got.answer.number);
         let references: [(&str, Delete); 2] =
             [("slow", deletion::delete_pin), ("plain", plain::delete_pin)];
         for (who, delete) in references {
@@ -162,9 +109,15 @@ impl Session {
         self.expect_deletion(false, &what, judged, by, got);
     }
 
-    fn count_refused(&mut self, number: u8) {
+    fn count_deletion(&mut self, judged: &Judged, sink: usize, number: u8) {
         let deletions = &mut self.deletions;
         match number {
+            0 => {
+                deletions.given += 1;
+                if let Some(before) = Read::of(&judged.net, &judged.listing) {
+                    deletions.count_place(&before, sink);
+                }
+            }
             6 => deletions.too_short += 1,
             15 => deletions.no_sink += 1,
             16 => deletions.last_sink += 1,
@@ -177,50 +130,32 @@ impl Session {
         let room = Room::as_before(judged);
         let got = self.delete_pin(judged, sink, room);
         let shorter = self.judged(got.net().to_vec(), got.listing().to_vec());
-        let fault = self.fault_of(judged, sink, &got, &shorter);
+        let fault = fault_of(judged, sink, &got, &shorter);
         if let Some(what) = fault {
             self.expect_deletion(false, what, judged, (sink, room), &got);
         }
         fault.is_none().then_some(shorter)
     }
+}
 
-    fn fault_of(
-        &mut self,
-        judged: &Judged,
-        sink: usize,
-        got: &Deleted,
-        shorter: &Judged,
-    ) -> Option<&'static str> {
-        if got.answer.number != 0 {
-            return Some("nothing is to be refused");
-        }
-        if shorter.answer.number != 0 {
-            return Some("the library's judge refuses the shorter listing");
-        }
-        let before = Read::of(&judged.net, &judged.listing);
-        let after = Read::of(&shorter.net, &shorter.listing);
-        let (Some(before), Some(after)) = (before, after) else {
-            return Some("the slow reference cannot read the texts");
-        };
-        self.count_given(&before, sink);
-        let loses = shorter.answer.slack < judged.answer.slack;
-        if loses || shorter.answer.wire > judged.answer.wire {
-            return Some("the worst slack falls or the wire grows");
-        }
-        remaining::fault(&before, sink, &after)
+/// What is not as request 9 says of a net of more than one sink.
+fn fault_of(judged: &Judged, sink: usize, got: &Deleted, shorter: &Judged) -> Option<&'static str> {
+    if got.answer.number != 0 {
+        return Some("nothing is to be refused");
     }
-
-    fn count_given(&mut self, before: &Read, sink: usize) {
-        let deletions = &mut self.deletions;
-        deletions.given += 1;
-        let above = before.tree.parent[before.branch_point(sink)];
-        deletions.on_root += u64::from(above == 0);
-        let n = before.net.sinks.len();
-        match before.sibling(sink) {
-            Some(v) if v <= n => deletions.beside_sink += 1,
-            _ => deletions.beside_branch_point += 1,
-        }
+    if shorter.answer.number != 0 {
+        return Some("the library's judge refuses the shorter listing");
     }
+    let before = Read::of(&judged.net, &judged.listing);
+    let after = Read::of(&shorter.net, &shorter.listing);
+    let (Some(before), Some(after)) = (before, after) else {
+        return Some("the slow reference cannot read the texts");
+    };
+    let loses = shorter.answer.slack < judged.answer.slack;
+    if loses || shorter.answer.wire > judged.answer.wire {
+        return Some("the worst slack falls or the wire grows");
+    }
+    remaining::fault(&before, sink, &after)
 }
 
 /// Judge's refusals, then 15, then 16; then 6 or nothing.
@@ -276,15 +211,5 @@ mod tests {
             let given = Deletion::of(Ok((50, 40)));
             assert_eq!(is_due(&judged, sink, given), due.contains(&0));
         }
-    }
-
-    #[test]
-    fn a_byte_beyond_is_seen() {
-        let mut out = fill(80);
-        out[..3].copy_from_slice(b"abc");
-        assert!(is_kept_from(&out, 3) && is_kept_from(&out, 80));
-        assert!(!is_kept_from(&out, 2) && !is_kept_from(&out, 81));
-        out[79] = 0;
-        assert!(!is_kept_from(&out, 3));
     }
 }

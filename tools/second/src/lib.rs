@@ -3,6 +3,7 @@
 
 pub mod damage;
 pub mod decided;
+pub mod deleted;
 pub mod deletions;
 pub mod due;
 pub mod kinds;

@@ -1,11 +1,12 @@
 //! Where a deletion is refused and where not: sinks that are not there, outputs
 //! that are too short, and texts that judge refuses.
 
+use super::deleted::told;
 use super::listings::{random_listing, with_odd_parents};
 use super::scored::{any_tree, judged};
 use super::spoilt::spoilt;
 use crate::damage;
-use crate::deletions::Room;
+use crate::deleted::Room;
 use crate::metals;
 use crate::nets;
 use crate::random::Random;
@@ -16,19 +17,6 @@ use repeater_tree::{LISTING_LENGTH, NET_LENGTH};
 use second_reference::listing::Listing;
 use second_reference::net::Net;
 use second_reference::slow::listing_of;
-
-/// What is told, whatever is lent.
-fn told(s: &mut Session, texts: &Judged, sink: usize, room: Room, number: u8) {
-    let got = s.delete_pin(texts, sink, room);
-    let what = format!("{number} is due");
-    s.expect_deletion(
-        got.answer.number == number,
-        &what,
-        texts,
-        (sink, room),
-        &got,
-    );
-}
 
 /// No sink's number over n sinks: past the ends, those of branch points, equal to
 /// a sink's number modulo a word's size, and the ends of all numbers.
@@ -59,10 +47,7 @@ pub fn sinks(s: &mut Session, r: &mut Random) {
     let (net, tree) = any_tree(r, most);
     let n = net.sinks.len();
     let texts = judged(s, &net, tree);
-    for sink in no_sinks(n)
-        .into_iter()
-        .filter(|&sink| sink == 0 || sink > n)
-    {
+    for sink in no_sinks(n) {
         for room in rooms(r, &texts) {
             told(s, &texts, sink, room, 15);
         }

@@ -1,10 +1,8 @@
-//! A pin is deleted (02, request 9): from trees of every plan and any others, one
-//! pin or all but one.
+//! One pin is deleted (02, request 9) from trees of every plan and any others.
 
+use super::deleted::{drawn, last};
 use super::scored::{judged, plans, trees_over};
-use super::weighted::any_shape;
-use crate::deletions::Room;
-use crate::metals;
+use crate::deleted::Room;
 use crate::nets;
 use crate::random::Random;
 use crate::ranges::NANOMETRES;
@@ -78,27 +76,11 @@ fn each_or_some(s: &mut Session, r: &mut Random, net: &Net, tree: Tree) {
     }
 }
 
-/// 16 for the only sink, 15 for the one after it.
-fn last(s: &mut Session, texts: &Judged) {
-    for (sink, number) in [(1, 16), (2, 15)] {
-        let room = Room::as_before(texts);
-        let got = s.delete_pin(texts, sink, room);
-        let what = format!("{number} is due");
-        s.expect_deletion(
-            got.answer.number == number,
-            &what,
-            texts,
-            (sink, room),
-            &got,
-        );
-    }
-}
-
 /// Of all plans and any tree, 1 to 40 sinks.
 pub fn random(s: &mut Session, r: &mut Random) {
-    let (n, make) = (r.between(1, 40) as usize, any_shape(r));
+    let n = r.between(1, 40) as usize;
     let n = r.pick(&[n, n.min(EVERY)]);
-    let net = metals::drawn(r, make, n);
+    let net = drawn(r, n);
     for tree in trees_over(r, &net) {
         each_or_some(s, r, &net, tree);
     }
@@ -106,8 +88,8 @@ pub fn random(s: &mut Session, r: &mut Random) {
 
 /// Every legal tree over 2 to 4 sinks, its branch points numbered in every way.
 pub fn few(s: &mut Session, r: &mut Random) {
-    let (n, make) = (r.between(2, 4) as usize, any_shape(r));
-    let net = metals::drawn(r, make, n);
+    let n = r.between(2, 4) as usize;
+    let net = drawn(r, n);
     let reach = r.pick(&[3, 5_000_000, COORDINATE]);
     for parent in trees::all_with_right_counts(n) {
         if fault(n, &parent).is_none() {
@@ -117,88 +99,10 @@ pub fn few(s: &mut Session, r: &mut Random) {
     }
 }
 
-/// The same sinks in two orders: what is left is the same, byte for byte.
-pub fn orders(s: &mut Session, r: &mut Random) {
-    let (net, tree) = any_of(r, 3, 20);
-    let texts = judged(s, &net, tree);
-    let n = net.sinks.len();
-    let mut sinks: Vec<usize> = (1..=n).collect();
-    nets::shuffle(r, &mut sinks);
-    sinks.truncate(r.between(2, n as i64 - 1) as usize);
-    let one = without(s, &texts, &sinks);
-    nets::shuffle(r, &mut sinks);
-    let two = without(s, &texts, &sinks);
-    let (Some(one), Some(two)) = (one, two) else {
-        return;
-    };
-    if (&one.net, &one.listing) != (&two.net, &two.listing) {
-        let what = "the order in which pins are deleted shows";
-        let left = [("one", &one.listing[..]), ("other", &two.listing)];
-        let given = [("net", &texts.net[..]), ("listing", &texts.listing)];
-        s.disagree(what, &[given, left].concat());
-    }
-}
-
-/// A net of so many sinks, and a tree over it.
-fn any_of(r: &mut Random, least: i64, most: i64) -> (Net, Tree) {
-    let (n, make) = (r.between(least, most) as usize, any_shape(r));
-    let net = metals::drawn(r, make, n);
-    let mut all = trees_over(r, &net);
-    let tree = all.swap_remove(r.index(all.len()));
-    (net, tree)
-}
-
-/// Deletes sinks, named by their numbers at the start, one after the other.
-fn without(s: &mut Session, texts: &Judged, sinks: &[usize]) -> Option<Judged> {
-    let mut left = s.judged(texts.net.clone(), texts.listing.clone());
-    for (i, &sink) in sinks.iter().enumerate() {
-        let fallen = sinks[..i].iter().filter(|&&other| other < sink).count();
-        left = s.shorten(&left, sink - fallen)?;
-    }
-    Some(left)
-}
-
-pub fn chains(s: &mut Session, r: &mut Random) {
-    let (net, tree) = any_of(r, 2, 40);
-    down_to_one(s, r, &net, tree);
-}
-
-/// From some hundred sinks.
-pub fn down(s: &mut Session, r: &mut Random) {
-    let n = r.pick(&[100, 200, 300, 512]);
-    let (net, tree) = any_of(r, n, n);
-    down_to_one(s, r, &net, tree);
-}
-
-/// Mostly in any order. The last one hangs on the root by a straight wire, so its
-/// slack is the best; then there is none to delete.
-fn down_to_one(s: &mut Session, r: &mut Random, net: &Net, tree: Tree) {
-    let mut texts = judged(s, net, tree);
-    let order = r.index(6);
-    for n in (2..=net.sinks.len()).rev() {
-        let sink = match order {
-            0 => 1,
-            1 => n,
-            _ => 1 + r.index(n),
-        };
-        match s.shorten(&texts, sink) {
-            Some(shorter) => texts = shorter,
-            None => return,
-        }
-    }
-    s.deletions.chains += 1;
-    let answer = texts.answer;
-    let straight = answer.slack == answer.last;
-    let what = "the last sink has less slack than by a straight wire";
-    s.expect(straight, what, answer, &texts.net, &texts.listing);
-    last(s, &texts);
-}
-
 /// Of the most sinks, and about the numbers that lose a digit.
 pub fn large(s: &mut Session, r: &mut Random) {
     let n = r.pick(&[9, 10, 11, 99, 100, 101, 200, 499, 500, 501, 511, 512, 512]);
-    let make = any_shape(r);
-    let net = metals::drawn(r, make, n);
+    let net = drawn(r, n);
     for tree in trees_over(r, &net) {
         each_or_some(s, r, &net, tree);
     }

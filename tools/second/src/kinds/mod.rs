@@ -1,5 +1,7 @@
 //! The kinds of case. Each draws its cases from one seed.
 
+mod deleted;
+mod deletion_chains;
 mod deletion_ends;
 mod deletions;
 mod enumerated;
@@ -118,10 +120,10 @@ pub const ALL: &[Kind] = &[
     kind("deletion-marked", 100, deletions::marked),
     kind("deletion-random", 1, deletions::random),
     kind("deletion-few", 20, deletions::few),
-    kind("deletion-orders", 2, deletions::orders),
-    kind("deletion-chains", 10, deletions::chains),
+    kind("deletion-orders", 2, deletion_chains::orders),
+    kind("deletion-chains", 10, deletion_chains::chains),
     kind("deletion-large", 20, deletions::large),
-    kind("deletion-down", 300, deletions::down),
+    kind("deletion-down", 300, deletion_chains::down),
     kind("deletion-sinks", 5, deletion_ends::sinks),
     kind("deletion-outputs", 2, deletion_ends::outputs),
     kind("deletion-refused", 2, deletion_ends::refused),

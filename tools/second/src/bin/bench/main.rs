@@ -10,8 +10,10 @@
 //!   short     short trees by shape and size of the net
 //!   weighted  third plans by weights and size of the net
 //!   score     scores of plans beside judgements of them
+//!   delete    deletions of a pin beside judgements of the same plans
 //!   compare   wire and slack of the short tree beside the first plan's
 
+mod deletion;
 mod plans;
 mod score;
 mod short;
@@ -49,7 +51,7 @@ const SIZES: [usize; 8] = [1, 5, 12, 16, 17, 50, 200, 512];
 /// Different nets of one shape and size.
 const NETS: usize = 12;
 
-const PARTS: [(&str, fn()); 8] = [
+const PARTS: [(&str, fn()); 9] = [
     ("plan", timed_plans),
     ("judge", judged_plans),
     ("paths", judged_paths),
@@ -57,6 +59,7 @@ const PARTS: [(&str, fn()); 8] = [
     ("short", short::short_trees),
     ("weighted", weighted::third_plans),
     ("score", score::scored_plans),
+    ("delete", deletion::deleted_pins),
     ("compare", plans::both_plans),
 ];
 

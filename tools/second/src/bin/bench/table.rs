@@ -10,7 +10,7 @@ pub struct Times {
     /// By the plain implementation's plainest way.
     pub plainest: f64,
     /// Another call of the library: the first plan of the same net, or the
-    /// judgement of what is scored.
+    /// judgement of what is scored or loses a pin.
     pub other: f64,
 }
 
