@@ -123,7 +123,7 @@ pub const ALL: &[Kind] = &[
     kind("deletion-orders", 2, deletion_chains::orders),
     kind("deletion-chains", 10, deletion_chains::chains),
     kind("deletion-large", 20, deletions::large),
-    kind("deletion-down", 300, deletion_chains::down),
+    kind("deletion-down", 150, deletion_chains::down),
     kind("deletion-sinks", 5, deletion_ends::sinks),
     kind("deletion-outputs", 2, deletion_ends::outputs),
     kind("deletion-refused", 2, deletion_ends::refused),
