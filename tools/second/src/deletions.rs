@@ -60,9 +60,11 @@ impl Session {
                 self.differ_on_deletion(who, judged, (sink, room), &got, &expected);
             }
         }
-        let due = is_due(judged, sink, got.answer) && got.is_kept_beyond();
+        let due = is_due(judged, sink, got.answer);
         let what = format!("by the library's judge {:?}", judged.answer);
         self.expect_deletion(due, &what, judged, (sink, room), &got);
+        let what = "a byte beyond the texts is not as it was";
+        self.expect_deletion(got.is_kept_beyond(), what, judged, (sink, room), &got);
         got
     }
 

@@ -8,7 +8,7 @@ use crate::net::Net;
 use crate::slow::{listing_of, try_judge};
 use crate::tree::{children, Point, Tree};
 
-/// Lines of the net's text, counted from 0.
+/// Where the net's text has its line `sinks=n`, counted from 0; the sinks' follow.
 const COUNT_LINE: usize = 4;
 
 pub fn delete_pin(
