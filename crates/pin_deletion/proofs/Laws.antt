@@ -9,3 +9,4 @@ pub mod HeldShorter
 pub mod ShorterInRange
 pub mod Shortened
 pub mod Deletions
+pub mod AcceptedTree

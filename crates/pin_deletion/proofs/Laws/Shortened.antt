@@ -115,5 +115,5 @@ module _ (h : Header) (n s : ℕ) (ps : List ℕ) (xs ys rs ws : List ℤ) (held
     shortened-weights same = record {
       long = omega (arith, held .1 .long);
       in-range = subst (λ m. WeightsInRange m (weightsOf (n - 1) ws′)) size-m
-      (subst (WeightsInRange (size (without N s))) (sym (closed .weights)) (shorter-weighed N s s1 sink-in size₂ (weightsOf n ws) (subst (λ m. WeightsInRange m (weightsOf n ws)) (sym size-n) (held .1 .in-range))));
+          (subst (WeightsInRange (size (without N s))) (sym (closed .weights)) (shorter-weighed N s s1 sink-in size₂ (weightsOf n ws) (subst (λ m. WeightsInRange m (weightsOf n ws)) (sym size-n) (held .1 .in-range))));
     }
