@@ -10,3 +10,5 @@ pub mod ShorterInRange
 pub mod Shortened
 pub mod Deletions
 pub mod AcceptedTree
+pub mod PinDeletion
+pub mod Marked

@@ -2,4 +2,5 @@
 pub mod Deletion
 pub mod Deletions
 pub mod PinDeletion
+pub mod Marked
 pub mod Inner

@@ -1,7 +1,8 @@
-// The library for callers in C and Rust: the plans, judge and the score on lent bytes, each figure through a reference of its own.
+// The library for callers in C and Rust: the plans, judge, the score and the deletion of a pin on lent bytes, each figure through a reference of its own.
 ghost use mathlib.Core.Path.{_≡_};
 ghost use lib.ListN.{length};
 ghost use Rattle.operations.specs.Answers.{planOf, planOutput, planAnswer, planFigures, judgeOf, judgeAnswer, judgeFigures};
+ghost use Rattle.pin_deletion.specs.Deletions.{deletionOf, netOutput, listingOutput, deletionAnswer, deletionFigures};
 ghost use Rattle.scoring.specs.Scores.{scoreOf, scoreAnswer, scoreFigures};
 ghost use Rattle.short_tree.specs.SecondPlan.{shortOf, shortOutput};
 ghost use Rattle.weighted_tree.specs.ThirdPlan.{weightedOf, weightedOutput};
@@ -10,6 +11,8 @@ use formats::refusal::tell;
 use judging::judge::judge;
 use operations::answers::JudgeAnswer;
 use operations::answers::PlanAnswer;
+use pin_deletion::delete_pin::DeletionAnswer;
+use pin_deletion::delete_pin::delete_pin;
 use scoring::score::ScoreAnswer;
 use short_tree::plan_short::plan_short;
 use weighted_tree::plan_weighted::plan_weighted;
@@ -168,6 +171,45 @@ pub extern "C" fn repeater_tree_score(
             *text = told.text;
             *line = told.line;
             *score = 0.0;
+            told.number
+        }
+    }
+}
+
+// Deletes a pin from a net and from an accepted listing over it. The number of the refusal is returned, 0 where nothing is refused.
+#[no_mangle]
+pub extern "C" fn repeater_tree_delete_pin(
+    net: &[u8],
+    listing: &[u8],
+    sink: usize,
+    net_out: &mut [u8],
+    listing_out: &mut [u8],
+    text: &mut u8,
+    line: &mut usize,
+    net_bytes: &mut usize,
+    listing_bytes: &mut usize,
+) -> u8
+    ensures figures { λ r. ⌜ (record { number = r; text = now (text .exit); line = now (line .exit); net-bytes = now («net_bytes» .exit); listing-bytes = now («listing_bytes» .exit) }) ≡ deletionFigures (deletionAnswer (deletionOf (now (net .entry)) (now (listing .entry)) sink (length (now («net_out» .entry))) (length (now («listing_out» .entry))))) ⌝ }
+    ensures net { λ r. ⌜ now («net_out» .exit) ≡ netOutput (now (net .entry)) (now (listing .entry)) sink (now («net_out» .entry)) (now («listing_out» .entry)) ⌝ }
+    ensures listing { λ r. ⌜ now («listing_out» .exit) ≡ listingOutput (now (net .entry)) (now (listing .entry)) sink (now («net_out» .entry)) (now («listing_out» .entry)) ⌝ }
+{
+    match delete_pin(net, listing, sink, net_out, listing_out) {
+        DeletionAnswer::Deleted {
+            net_bytes: net_written,
+            listing_bytes: listing_written,
+        } => {
+            *text = 0;
+            *line = 0;
+            *net_bytes = net_written;
+            *listing_bytes = listing_written;
+            0
+        }
+        DeletionAnswer::DeletionRefused { refusal } => {
+            let told = tell(refusal);
+            *text = told.text;
+            *line = told.line;
+            *net_bytes = 0;
+            *listing_bytes = 0;
             told.number
         }
     }

@@ -2,14 +2,18 @@
 use Prim.Native.Nat.{ℕ, _≤_, _<_}
 use mathlib.Core.Path.{_≡_, refl, sym, ap, ap₂, subst, _∙_}
 use mathlib.Core.Bool.{Bool, true, false, _&&_, _||_}
+use mathlib.Core.Logic.{_≢_, _⊎_, inl, inr}
 use mathlib.Core.List.{List}
 use native.Mathlib.Nat.{zero-add}
+use native.Mathlib.Decide.{decLe}
 use native.Mathlib.Omega.{arith}
 use borrow.Author.Tests.{leb-true, lt-ltb, le-ltb, le-leb, lt-leb, eq-eqb, ne-eqb}
 use lib.ListN.{length}
-use lib.Dec.{T, leb, ltb, eqb}
+use lib.Dec.{leb, ltb, eqb}
+use lib.Dec as dec
 use Rattle.tree.specs.Net.{Net, size}
 use Rattle.tree.specs.Tree.{Tree}
+use Rattle.tree.proofs.Laws.Lists.Sums.{equal?}
 use Rattle.formats.specs.Outcome.{Outcome, value, refused}
 use Rattle.formats.specs.Inner.Writing.{Puts, over}
 use Rattle.formats.specs.Reading.Nets.{readWeighted}
@@ -19,6 +23,7 @@ use Rattle.formats.specs.declared.refusal.Refusal.the-variants.{TooShort, NotAS
 use Rattle.formats.proofs.Laws.Lines.Outcomes.{then-value, then-refused}
 use Rattle.operations.specs.Accepting.{acceptListing}
 use Rattle.pin_deletion.specs.Deletions.{Shorter, shorter, bothFit, isSink, deleted, deletionOf, netOutput, listingOutput, deletionAnswer}
+use Rattle.pin_deletion.specs.PinDeletion.{Deletable}
 use Rattle.pin_deletion.specs.Inner.Arrays.{deletedOver, Answers}
 use Rattle.pin_deletion.specs.declared.delete_pin.DeletionAnswer.{DeletionAnswer}
 use Rattle.pin_deletion.specs.declared.delete_pin.DeletionAnswer.the-variants.{Deleted, DeletionRefused}
@@ -39,7 +44,7 @@ sink-is n s e = go (leb 1 s) refl e
   where
     go : (t : Bool) → leb 1 s ≡ t → t && leb s n ≡ true → (1 ≤ s) × (s ≤ n)
     go true f e = (leb-true 1 s f, leb-true s n e)
-    go false f e = absurd (subst T (sym e) tt)
+    go false f e = absurd (subst dec.T (sym e) tt)
 
 pub is-sink : (n s : ℕ) → (1 ≤ s) × (s ≤ n) → isSink n s ≡ true
 is-sink n s h = sym (from-one n s (h .0)) ∙ le-leb s n (h .1)
@@ -63,6 +68,16 @@ module _ (t : Shorter) (netRoom listingRoom : ℕ) where
     pub both-fit : length (t .listing) ≤ listingRoom → bothFit t netRoom listingRoom ≡ value t
     both-fit h = net-fits ∙ ap (fit-by false) (le-ltb listingRoom (length (t .listing)) h)
 
+  -- one of the two is too short, or both are given
+  pub fit-cases : {C : Type 0} (o : Outcome Shorter) → bothFit t netRoom listingRoom ≡ o → ((netRoom < length (t .net)) ⊎ (listingRoom < length (t .listing)) → o ≡ refused TooShort → C)
+      → (length (t .net) ≤ netRoom → length (t .listing) ≤ listingRoom → o ≡ value t → C) → C
+  fit-cases {C = C} o h short fits = go (decLe (length (t .net)) netRoom) (decLe (length (t .listing)) listingRoom)
+    where
+      go : Dec (length (t .net) ≤ netRoom) → Dec (length (t .listing) ≤ listingRoom) → C
+      go (yes p) (yes q) = fits p q (sym h ∙ both-fit p q)
+      go (yes p) (no q) = short (inr (omega arith)) (sym h ∙ listing-short p (omega arith))
+      go (no p) d = short (inl (omega arith)) (sym h ∙ net-short (omega arith))
+
 -- ---- a net that was read, of n sinks
 
 module _ (N : Net) (w : List ℕ) (T : Tree) (s netRoom listingRoom n : ℕ) (sized : size N ≡ n) where
@@ -82,6 +97,17 @@ module _ (N : Net) (w : List ℕ) (T : Tree) (s netRoom listingRoom n : ℕ) (si
 
     pub sink-goes : (n ≡ 1 → ⊥) → deleted N w T s netRoom listingRoom ≡ bothFit (shorter N w T s) netRoom listingRoom
     sink-goes d = tested true false sink (ne-eqb n 1 d)
+
+-- the three ways that a deletion can go on
+pub sink-cases : {C : Type 0} (N : Net) (w : List ℕ) (T : Tree) (s netRoom listingRoom : ℕ) (o : Outcome Shorter) → deleted N w T s netRoom listingRoom ≡ o
+    → (((1 ≤ s) × (s ≤ size N) → ⊥) → o ≡ refused NotASink → C) → ((1 ≤ s) × (s ≤ size N) → size N ≡ 1 → o ≡ refused OnlySink → C)
+    → (Deletable N s → bothFit (shorter N w T s) netRoom listingRoom ≡ o → C) → C
+sink-cases {C = C} N w T s netRoom listingRoom o h none only goes = go (isSink (size N) s) refl (equal? (size N) 1)
+  where
+    go : (t : Bool) → isSink (size N) s ≡ t → (size N ≡ 1) ⊎ (size N ≢ 1) → C
+    go false e d = none (λ i. absurd (subst dec.T (sym (is-sink (size N) s i) ∙ e) tt)) (sym h ∙ not-a-sink N w T s netRoom listingRoom (size N) refl e)
+    go true e (inl d) = only (sink-is (size N) s e) d (sym h ∙ only-sink N w T s netRoom listingRoom (size N) refl e d)
+    go true e (inr d) = let i = sink-is (size N) s e in goes (omega arith, i .0, i .1) (sym (sink-goes N w T s netRoom listingRoom (size N) refl e d) ∙ h)
 
 -- ---- the answers
 
