@@ -14,7 +14,7 @@ use Rattle.formats.specs.Reading.Nets.{readWeighted}
 use Rattle.formats.specs.declared.refusal.Refusal.the-variants.{TooShort, NotASink, OnlySink}
 use Rattle.operations.specs.Accepting.{acceptListing}
 use Rattle.operations.specs.Answers.{stated, overwritten}
-use Rattle.pin_deletion.specs.Deletion.{without, weightsWithout, pruned}
+use Rattle.shorter_tree.specs.Deletion.{without, weightsWithout, pruned}
 use Rattle.pin_deletion.specs.declared.delete_pin.DeletionAnswer.{DeletionAnswer}
 use Rattle.pin_deletion.specs.declared.delete_pin.DeletionAnswer.the-variants.{Deleted, DeletionRefused}
 

@@ -1,15 +1,13 @@
 -- What 02's request 9 promises of a deletion, in one statement.
-use Prim.Native.Nat.{ℕ, suc, _*_, _≤_, _<_}
+use Prim.Native.Nat.{ℕ, _≤_, _<_}
 use mathlib.Core.Path.{_≡_}
 use mathlib.Core.Logic.{_≢_, _⊎_, _↔_}
 use mathlib.Core.List.{List}
 use lib.ListN.{length, take, drop}
-use lib.Signed.{_≤ℤ_}
-use Rattle.tree.specs.Net.{Net, size, required, ownSlacks}
-use Rattle.tree.specs.Tree.{Tree, parent, LegalTree, place}
-use Rattle.tree.specs.Measures.{slack, worstSlack, wireLength}
+use Rattle.tree.specs.Net.{Net, size, ownSlacks}
+use Rattle.tree.specs.Tree.{Tree, LegalTree}
+use Rattle.tree.specs.Measures.{worstSlack, wireLength}
 use Rattle.tree.specs.Kraft.{kraftMaximum}
-use Rattle.tree.specs.Weights.{weightOf}
 use Rattle.formats.specs.Outcome.{value, refused}
 use Rattle.formats.specs.NetText.{InFormat}
 use Rattle.formats.specs.ListingText.{ListingInFormat}
@@ -18,42 +16,10 @@ use Rattle.formats.specs.declared.refusal.Refusal.the-variants.{TooShort, NotAS
 use Rattle.operations.specs.Answers.{stated, judgeOf}
 use Rattle.operations.specs.Demands.{Accepts}
 use Rattle.operations.specs.Refusing.{JudgeRefuses}
-use Rattle.pin_deletion.specs.Deletion.{without, weightsWithout, renumber, branchOf, pruned}
+use Rattle.shorter_tree.specs.Deletion.{without, weightsWithout, pruned}
+use Rattle.shorter_tree.specs.Kept.{Deletable, Kept}
 use Rattle.pin_deletion.specs.Deletions.{Shorter, shorter, deletionOf, netBytes, listingBytes, netOutput, listingOutput, deletionFigures}
 use Rattle.pin_deletion.specs.declared.delete_pin.DeletionAnswer.{DeletionAnswer}
-
--- ---- a tree and a sink of it
-
--- v is neither the sink nor its branch point
-abbrev pub Remains : Tree → ℕ → ℕ → Type 0
-Remains T s v = (v ≢ s) × (v ≢ branchOf T s)
-
--- its new number
-abbrev pub newNumber : Tree → ℕ → ℕ → ℕ
-newNumber T s v = renumber s (branchOf T s) v
-
--- t is another sink
-abbrev pub OtherSink : Net → ℕ → ℕ → Type 0
-OtherSink N s t = (1 ≤ t) × (t ≤ size N) × (t ≢ s)
-
-pub record Kept (N : Net) (w : List ℕ) (T : Tree) (s : ℕ) : Type 0 where
-  pub one-less : suc (size (without N s)) ≡ size N
-  pub legal : LegalTree (without N s) (pruned N T s)
-  -- "vertex numbers close up without holes in their old order"
-  pub in-order : (u v : ℕ) → Remains T s u → Remains T s v → u < v → newNumber T s u < newNumber T s v
-  pub no-holes : (x : ℕ) → x < 2 * size (without N s) → (v : ℕ) × (v < 2 * size N) × Remains T s v × (newNumber T s v ≡ x)
-  -- "its branch point goes too, the sibling takes that place in the tree"; every other vertex keeps its parent
-  pub sibling : (v : ℕ) → Remains T s v → parent T v ≡ branchOf T s → parent (pruned N T s) (newNumber T s v) ≡ newNumber T s (parent T (branchOf T s))
-  pub others : (v : ℕ) → Remains T s v → parent T v ≢ branchOf T s → parent (pruned N T s) (newNumber T s v) ≡ newNumber T s (parent T v)
-  -- "no point moves"
-  pub unmoved : (v : ℕ) → Remains T s v → place (without N s) (pruned N T s) (newNumber T s v) ≡ place N T v
-  pub same-required : (t : ℕ) → OtherSink N s t → required (without N s) (newNumber T s t) ≡ required N t
-  pub same-weight : (t : ℕ) → OtherSink N s t → weightOf (weightsWithout w s) (newNumber T s t) ≡ weightOf w t
-  -- "No remaining sink loses slack", so that the worst slack does not fall
-  pub slack-kept : (t : ℕ) → OtherSink N s t → slack N T t ≤ℤ slack (without N s) (pruned N T s) (newNumber T s t)
-  pub worst-kept : worstSlack N T ≤ℤ worstSlack (without N s) (pruned N T s)
-  -- "and wire doesn't grow"
-  pub wire-kept : wireLength (without N s) (pruned N T s) ≤ wireLength N T
 
 -- ---- two texts
 
@@ -63,10 +29,6 @@ pub record TextsOf (net listing : List ℕ) (N : Net) (w : List ℕ) (T : Tree) 
   pub weights-are : in-format .weights ≡ w
   pub listed : ListingInFormat (size N) listing (stated N T)
   pub legal : LegalTree N T
-
--- the sink may be deleted
-abbrev pub Deletable : Net → ℕ → Type 0
-Deletable N s = (2 ≤ size N) × (1 ≤ s) × (s ≤ size N)
 
 -- for each such sink
 pub record DeletionFor (net listing : List ℕ) (N : Net) (w : List ℕ) (T : Tree) (s : ℕ) : Type 0 where

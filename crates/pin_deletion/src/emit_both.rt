@@ -7,7 +7,7 @@ ghost use Rattle.formats.specs.ListingText.{ListingInRange};
 ghost use Rattle.formats.specs.Inner.ListingReader.{HasVertices, listingHeld};
 ghost use Rattle.writing.specs.Inner.NetWriting.{netHeldText};
 ghost use Rattle.pin_deletion.specs.Deletions.{bothFit};
-ghost use Rattle.pin_deletion.specs.Inner.Arrays.{textsHeld, Answers};
+ghost use Rattle.pin_deletion.specs.Inner.Answers.{textsHeld, Answers};
 use crate::delete_pin::DeletionAnswer;
 use formats::limits::NET_LENGTH_LIMIT;
 use formats::refusal::Refusal;

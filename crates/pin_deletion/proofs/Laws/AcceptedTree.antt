@@ -25,7 +25,8 @@ use Rattle.operations.specs.Demands.{LegalAndTrue}
 use Rattle.operations.proofs.Laws.Accepting.{legal-no-sink}
 use Rattle.operations.proofs.Laws.Demands.{accepted-is}
 use Rattle.pin_deletion.specs.Deletions.{deleted}
-use Rattle.pin_deletion.specs.Inner.Arrays.{HoldsLegal, SlackInRange, deletedOver}
+use Rattle.shorter_tree.specs.Inner.Arrays.{HoldsLegal, SlackInRange}
+use Rattle.pin_deletion.specs.Inner.Answers.{deletedOver}
 use Rattle.pin_deletion.proofs.Laws.Deletions.{listing-accepted}
 
 -- the root and the sinks stand as before; the listing's parents and points were put beside them

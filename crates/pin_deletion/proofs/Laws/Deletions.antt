@@ -23,8 +23,8 @@ use Rattle.formats.specs.declared.refusal.Refusal.the-variants.{TooShort, NotAS
 use Rattle.formats.proofs.Laws.Lines.Outcomes.{then-value, then-refused}
 use Rattle.operations.specs.Accepting.{acceptListing}
 use Rattle.pin_deletion.specs.Deletions.{Shorter, shorter, bothFit, isSink, deleted, deletionOf, netOutput, listingOutput, deletionAnswer}
-use Rattle.pin_deletion.specs.PinDeletion.{Deletable}
-use Rattle.pin_deletion.specs.Inner.Arrays.{deletedOver, Answers}
+use Rattle.shorter_tree.specs.Kept.{Deletable}
+use Rattle.pin_deletion.specs.Inner.Answers.{deletedOver, Answers}
 use Rattle.pin_deletion.specs.declared.delete_pin.DeletionAnswer.{DeletionAnswer}
 use Rattle.pin_deletion.specs.declared.delete_pin.DeletionAnswer.the-variants.{Deleted, DeletionRefused}
 

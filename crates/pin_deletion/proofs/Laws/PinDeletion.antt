@@ -34,13 +34,14 @@ use Rattle.operations.proofs.Laws.Answers.{judge-refused, overwritten-beyond, o
 use Rattle.operations.proofs.Laws.Demands.{demands, of-net-text, true-accepted, accepted-is, judged, judge-true}
 use Rattle.operations.proofs.Laws.Judging.{judge-read}
 use Rattle.operations.proofs.Laws.Refusing.{judge-refuses}
-use Rattle.pin_deletion.specs.Deletion.{without, weightsWithout, pruned}
+use Rattle.shorter_tree.specs.Kept.{Deletable}
+use Rattle.shorter_tree.specs.Deletion.{without, weightsWithout, pruned}
 use Rattle.pin_deletion.specs.Deletions.{Shorter, shorter, bothFit, deleted, deletionOf, netBytes, listingBytes, netOutput, listingOutput, deletionFigures}
-use Rattle.pin_deletion.specs.PinDeletion.{TextsOf, Deletable, DeletionFor, DeletionRefuses, Outputs, PinDeletion}
+use Rattle.pin_deletion.specs.PinDeletion.{TextsOf, DeletionFor, DeletionRefuses, Outputs, PinDeletion}
 use Rattle.pin_deletion.specs.declared.delete_pin.DeletionAnswer.{DeletionAnswer}
 use Rattle.pin_deletion.specs.declared.delete_pin.DeletionAnswer.the-variants.{Deleted, DeletionRefused}
-use Rattle.pin_deletion.proofs.Laws.Kept.{kept, shorter-legal}
-use Rattle.pin_deletion.proofs.Laws.ShorterInRange.{shorter-in-range, shorter-weighed, shorter-near, listed-within, shorter-listed}
+use Rattle.shorter_tree.proofs.Laws.Kept.{kept, shorter-legal}
+use Rattle.shorter_tree.proofs.Laws.ShorterInRange.{shorter-in-range, shorter-weighed, shorter-near, listed-within, shorter-listed}
 use Rattle.pin_deletion.proofs.Laws.Deletions.{both-fit, fit-cases, sink-cases, net-turned, net-read, listing-turned, listing-accepted}
 
 -- ---- a net and an accepted listing over it

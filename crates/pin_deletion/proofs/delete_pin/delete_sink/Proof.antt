@@ -16,10 +16,11 @@ use Rattle.tree.specs.Inner.Arrays.{netOf, treeOf, weightsOf, HoldsNet, HoldsWe
 use Rattle.tree.proofs.Laws.Arrays.NetAndTree.{size-is}
 use Rattle.formats.specs.ListingText.{ListingInRange}
 use Rattle.formats.specs.Inner.ListingReader.{listingHeld}
-use Rattle.pin_deletion.specs.Deletion.{without, pruned}
+use Rattle.shorter_tree.specs.Deletion.{without, pruned}
 use Rattle.pin_deletion.specs.Deletions.{isSink, bothFit}
-use Rattle.pin_deletion.specs.Inner.Arrays.{HoldsShorter}
-use Rattle.pin_deletion.proofs.Laws.Shortened.{shortened-net, shortened-weights, shortened-listed, shortened-texts}
+use Rattle.shorter_tree.specs.Inner.Arrays.{HoldsShorter}
+use Rattle.shorter_tree.proofs.Laws.Shortened.{shortened-net, shortened-weights, shortened-listed}
+use Rattle.pin_deletion.proofs.Laws.ShorterTexts.{shortened-texts}
 use Rattle.pin_deletion.proofs.Laws.Deletions.{sink-is, not-a-sink, only-sink, sink-goes, refused-answers, same-answers}
 use borrow.Author.Needs.{needs}
 use Rattle.pin_deletion.proofs.delete_pin.delete_sink.Statement.{statement}
@@ -136,7 +137,7 @@ returns-3 c =
     let sink = sym (c .before .before .before .before .before .before .before .before .before .before .before .before .before .before .before .before .before .before .before .before .before .before .before .before .before .before .before .before .before .before .before .before .before .before .before .before .before .is-sink .ensures) ∙ not-false _ (c .before .before .before .before .before .before .before .before .before .before .before .before .before .before .before .before .before .before .before .before .before .before .before .before .before .before .before .before .before .before .before .before .before .before .before .before .if1 .left) in
     let more = c .before .before .before .before .before .before .before .before .before .before .before .before .before .before .before .before .before .before .before .before .before .before .before .before .before .before .before .before .before .before .before .before .before .before .before .if2 .left in
     let d = deletable s sink more in
-    let texts = shortened-texts (a .header) (a .n) (a .s) (a .parents .now) (a .xs .now) (a .ys .now) (a .required .now) (a .weights .now) (s .pre .0) (d .0) (d .1) (d .2)
+    let texts = shortened-texts (a .header) (a .n) (a .s) (a .parents .now) (a .xs .now) (a .ys .now) (a .required .now) (a .weights .now)
     (l .0) (l .1 .0) (l .1 .1 .0) (l .1 .1 .1 .0) (l .1 .1 .1 .1 .0) (k .ensures .0) (k .result .worst) (k .result .wire) (k .ensures .1 .0) (k .ensures .1 .1) in
     same-answers (a .net-out .now) (a .listing-out .now) _ _ _ _ _
     (ap (λ t. bothFit t (length (a .net-out .now)) (length (a .listing-out .now))) texts ∙ sym (sink-goes (net s) (weights s) (tree s) (a .s) _ _ (a .n) (sized s) sink more))

@@ -2,7 +2,7 @@
 use mathlib.Core.Path.{sym, _∙_}
 use borrow.Author.Tests.{leb-true, leb-false, not-true, not-false}
 use Rattle.pin_deletion.specs.Deletions.{Shorter}
-use Rattle.pin_deletion.specs.Inner.Arrays.{textsHeld}
+use Rattle.pin_deletion.specs.Inner.Answers.{textsHeld}
 use Rattle.pin_deletion.proofs.Laws.Deletions.{net-short, listing-short, both-fit, refused-answers, written-answers}
 use borrow.Author.Needs.{needs}
 use Rattle.pin_deletion.proofs.emit_both.emit_both.Statement.{statement}
