@@ -1,5 +1,5 @@
 // The marked nets and lines that are checked by running the plans and judge: number, text and line of what each returns, and plan's bytes; of the nets of 02's
-// requests 1, 4, 5, 6 and 7 the listing, of those of request 8 the score's bits.
+// requests 1, 4, 5, 6 and 7 the listing, of those of request 8 the score's bits, of those of request 9 both texts.
 use first_plan::plan::plan;
 use formats::limits::LISTING_LENGTH_LIMIT;
 use formats::limits::NET_LENGTH_LIMIT;
@@ -9,6 +9,8 @@ use judging::judge::judge;
 use libc::STDOUT_FILENO;
 use operations::answers::JudgeAnswer;
 use operations::answers::PlanAnswer;
+use pin_deletion::delete_pin::DeletionAnswer;
+use pin_deletion::delete_pin::delete_pin;
 use scoring::score::ScoreAnswer;
 use scoring::score::score;
 use short_tree::plan_short::plan_short;
@@ -118,6 +120,42 @@ fn show_score(net: &[u8], listing: &[u8], alpha_1024ths: i64, beta_1024ths: i64,
         }
         ScoreAnswer::ScoreRefused { refusal } => show_refusal(refusal),
     }
+}
+
+// What judge returns for the net and the listing in the first bytes of two outputs.
+fn judge_shorter(net_out: &[u8], net_bytes: usize, listing_out: &[u8], listing_bytes: usize) {
+    if net_out.len() < net_bytes {
+        return;
+    }
+    judge_written(&net_out[..net_bytes], listing_out, listing_bytes);
+}
+
+// Both texts without a sink and what judge returns for them, or the refusal.
+fn show_deletion(
+    net: &[u8],
+    listing: &[u8],
+    sink: usize,
+    net_out: &mut [u8],
+    listing_out: &mut [u8],
+) {
+    match delete_pin(net, listing, sink, net_out, listing_out) {
+        DeletionAnswer::Deleted {
+            net_bytes,
+            listing_bytes,
+        } => {
+            print_listing(net_out, net_bytes);
+            print_listing(listing_out, listing_bytes);
+            judge_shorter(net_out, net_bytes, listing_out, listing_bytes);
+        }
+        DeletionAnswer::DeletionRefused { refusal } => show_refusal(refusal),
+    }
+}
+
+// The same into outputs that have room for any texts.
+fn show_without(net: &[u8], listing: &[u8], sink: usize) {
+    let mut net_out = [0u8; NET_LENGTH_LIMIT];
+    let mut listing_out = [0u8; LISTING_LENGTH_LIMIT];
+    show_deletion(net, listing, sink, &mut net_out, &mut listing_out);
 }
 
 fn show_file(name: &[u8]) {
@@ -439,6 +477,100 @@ fn show_score_refusals() {
     );
 }
 
+// A without a sink.
+fn show_a_without(sink: usize) {
+    show_without(
+        b"root=0,0\nbranch=20\nwire=2,2\nneed=0\nsinks=3\nsink=10,0,100,1\nsink=4,6,60,1\nsink=10,10,70,1\n",
+        b"slack=0\nwire=32\nsinks=3\nleaf=1,5\nleaf=2,5\nleaf=3,4\nnode=4,0,4,0\nnode=5,4,4,0\n",
+        sink,
+    );
+}
+
+// Four sinks without one: branch point 5 hangs on the root, 6 with sinks 1 and 2 and 7 with sinks 3 and 4 on 5.
+fn show_four_without(sink: usize) {
+    show_without(
+        b"root=0,0\nbranch=1\nwire=1,2\nneed=500\nsinks=4\nsink=1,0,10,7\nsink=2,0,20,8\nsink=3,0,30,9\nsink=4,0,40,10\n",
+        b"slack=3\nwire=8\nsinks=4\nleaf=1,6\nleaf=2,6\nleaf=3,7\nleaf=4,7\nnode=5,0,1,1\nnode=6,5,1,0\nnode=7,5,3,0\n",
+        sink,
+    );
+}
+
+// A without each sink; then two sinks without one, and four without one.
+fn show_deletions() {
+    show_a_without(1);
+    show_a_without(2);
+    show_a_without(3);
+    show_without(
+        b"root=0,0\nbranch=20\nwire=2,2\nneed=0\nsinks=2\nsink=10,0,100,1\nsink=4,6,60,1\n",
+        b"slack=20\nwire=16\nsinks=2\nleaf=1,3\nleaf=2,3\nnode=3,0,4,0\n",
+        1,
+    );
+    show_four_without(1);
+    show_four_without(3);
+}
+
+// One sink: 16 for it, 15 for any other number.
+fn show_one_without(sink: usize) {
+    show_without(
+        b"root=0,0\nbranch=20\nwire=2,2\nneed=0\nsinks=1\nsink=4,6,60,1\n",
+        b"slack=40\nwire=10\nsinks=1\nleaf=1,0\n",
+        sink,
+    );
+}
+
+// A without sink 1 has 73 bytes, its listing 56: 6 where the net's output has one byte less, and both stay full of dots.
+fn show_short_net() {
+    let mut net_out = [46u8; 72];
+    let mut listing_out = [46u8; 56];
+    show_deletion(
+        b"root=0,0\nbranch=20\nwire=2,2\nneed=0\nsinks=3\nsink=10,0,100,1\nsink=4,6,60,1\nsink=10,10,70,1\n",
+        b"slack=0\nwire=32\nsinks=3\nleaf=1,5\nleaf=2,5\nleaf=3,4\nnode=4,0,4,0\nnode=5,4,4,0\n",
+        1,
+        &mut net_out,
+        &mut listing_out,
+    );
+    io::write_all(STDOUT_FILENO, &net_out);
+    io::write_all(STDOUT_FILENO, &listing_out);
+    io::write_all(STDOUT_FILENO, b"\n");
+}
+
+// The same where the listing's output has one byte less.
+fn show_short_listing() {
+    let mut net_out = [46u8; 73];
+    let mut listing_out = [46u8; 55];
+    show_deletion(
+        b"root=0,0\nbranch=20\nwire=2,2\nneed=0\nsinks=3\nsink=10,0,100,1\nsink=4,6,60,1\nsink=10,10,70,1\n",
+        b"slack=0\nwire=32\nsinks=3\nleaf=1,5\nleaf=2,5\nleaf=3,4\nnode=4,0,4,0\nnode=5,4,4,0\n",
+        1,
+        &mut net_out,
+        &mut listing_out,
+    );
+    io::write_all(STDOUT_FILENO, &net_out);
+    io::write_all(STDOUT_FILENO, &listing_out);
+    io::write_all(STDOUT_FILENO, b"\n");
+}
+
+// 15 and 16 in their order, then 6; judge's refusals go before.
+fn show_deletion_refusals() {
+    show_a_without(0);
+    show_a_without(4);
+    show_one_without(1);
+    show_one_without(2);
+    show_short_net();
+    show_short_listing();
+    show_without(b"", b"", 0);
+    show_without(
+        b"root=0,0\nbranch=20\nwire=2,2\nneed=0\nsinks=3\nsink=10,0,100,1\nsink=4,6,60,1\nsink=10,10,70,1\n",
+        b"slack=1\nwire=32\nsinks=3\nleaf=1,5\nleaf=2,5\nleaf=3,4\nnode=4,0,4,0\nnode=5,4,4,0\n",
+        0,
+    );
+    show_without(
+        b"root=0,0\nbranch=20\nwire=2,2\nneed=0\nsinks=3\nsink=10,0,100,1\nsink=4,6,60,1\nsink=10,10,70,1\n",
+        b"slack=0\nwire=31\nsinks=3\nleaf=1,5\nleaf=2,5\nleaf=3,4\nnode=4,0,4,0\nnode=5,4,4,0\n",
+        4,
+    );
+}
+
 fn main() {
     show_lines();
     show_positions();
@@ -458,4 +590,6 @@ fn main() {
     show_scores();
     show_score_ends();
     show_score_refusals();
+    show_deletions();
+    show_deletion_refusals();
 }
