@@ -1,7 +1,7 @@
 //! The worked nets of docs/FORMAT.md: their texts are what the calls give.
 
-use repeater_tree::{judge, plan, plan_short, plan_weighted, score};
-use repeater_tree::{Plan, Refusal, CAP_LIMIT, LISTING_LENGTH};
+use repeater_tree::{delete_pin, judge, plan, plan_short, plan_weighted, score};
+use repeater_tree::{Plan, Refusal, CAP_LIMIT, LISTING_LENGTH, NET_LENGTH};
 
 const PAGE: &str = include_str!("../../../docs/FORMAT.md");
 
@@ -67,7 +67,7 @@ fn gives(at: usize, planner: fn(&[u8], &mut [u8]) -> Result<Plan, Refusal>) {
     assert_eq!(&out[..planned.bytes], listing.as_bytes());
 }
 
-/// The rows of the section's last table: A, B, and the scores of two trees of
+/// The rows of the section's table of scores: A, B, and the scores of two trees of
 /// one net with a cap of 0.
 #[test]
 fn the_page_tells_what_scores_are() {
@@ -96,4 +96,22 @@ fn numbers(line: &str) -> Option<Vec<f64>> {
     let cells = line.strip_prefix("| ")?.split(" | ").take(4);
     let numbers: Option<Vec<f64>> = cells.map(|cell| cell.parse().ok()).collect();
     numbers.filter(|row| row.len() == 4)
+}
+
+/// The section's last two blocks: its first net and listing without sink 1.
+#[test]
+fn the_page_tells_what_a_deletion_leaves() {
+    let blocks = blocks();
+    let (net, listing) = (blocks[0].as_bytes(), blocks[1].as_bytes());
+    let [shorter_net, shorter_listing] = &blocks[9..11] else {
+        panic!("the shorter net and its listing are due")
+    };
+    let mut net_out = [0; NET_LENGTH];
+    let mut listing_out = [0; LISTING_LENGTH];
+    let deletion = delete_pin(net, listing, 1, &mut net_out, &mut listing_out).unwrap();
+    assert_eq!(&net_out[..deletion.net_bytes], shorter_net.as_bytes());
+    assert_eq!(
+        &listing_out[..deletion.listing_bytes],
+        shorter_listing.as_bytes()
+    );
 }
