@@ -36,7 +36,7 @@ shorter N w T s = record {
 abbrev pub bothFit : Shorter → ℕ → ℕ → Outcome Shorter
 bothFit t netRoom listingRoom = elim (ltb netRoom (length (t .net)) || ltb listingRoom (length (t .listing))) [ true ↦ refused TooShort | false ↦ value t ]
 
--- "the sink number is .. 1 to n"
+-- s is "1 to n"
 unfoldable pub isSink : ℕ → ℕ → Bool
 isSink n s = leb 1 s && leb s n
 

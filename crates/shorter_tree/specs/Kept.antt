@@ -28,6 +28,8 @@ OtherSink N s t = (1 ≤ t) × (t ≤ size N) × (t ≢ s)
 
 pub record Kept (N : Net) (w : List ℕ) (T : Tree) (s : ℕ) : Type 0 where
   pub one-less : suc (size (without N s)) ≡ size N
+  -- what stands before the sinks' lines but for their number
+  pub same-head : (without N s .root ≡ N .root) × (without N s .branch ≡ N .branch) × (without N s .wire ≡ N .wire) × (without N s .need ≡ N .need)
   pub legal : LegalTree (without N s) (pruned N T s)
   -- "vertex numbers close up without holes in their old order"
   pub in-order : (u v : ℕ) → Remains T s u → Remains T s v → u < v → newNumber T s u < newNumber T s v

@@ -259,6 +259,7 @@ kept N w T s legal d =
     let sn = d .2 in
     record {
       one-less = mn N T s legal n2 s1 sn;
+      same-head = (refl, refl, refl, refl);
       legal = shorter-legal N T s legal n2 s1 sn;
       in-order = λ u v a b. in-order N T s legal n2 s1 sn u v (a .0) (a .1) (b .0) (b .1);
       no-holes = no-holes N T s legal n2 s1 sn;
