@@ -1,6 +1,5 @@
 // A pin is deleted: a net, an accepted listing over it and a sink in, the shorter net and listing out; or a refusal: judge's, then 15, 16 and 6.
 ghost use mathlib.Core.Path.{_≡_};
-ghost use Prim.Native.Nat.{_≤_};
 ghost use lib.ListN.{length};
 ghost use Rattle.tree.specs.Limits.{sinkLimit};
 ghost use Rattle.tree.specs.Inner.Arrays.{netOf, treeOf, weightsOf, HoldsNet, HoldsWeights};

@@ -12,8 +12,8 @@ use Rattle.tree.specs.Limits.{WeightsInRange}
 use Rattle.tree.specs.Measures.{worstSlack, wireLength}
 use Rattle.tree.specs.Kraft.{kraftMaximum}
 use Rattle.formats.specs.Refusals.{told}
-use Rattle.formats.specs.Outcome.{Outcome, value, refused, andThen}
-use Rattle.formats.specs.NetText.{netText, InFormat}
+use Rattle.formats.specs.Outcome.{Outcome, value, refused}
+use Rattle.formats.specs.NetText.{InFormat}
 use Rattle.formats.specs.ListingText.{Listing, ListingInFormat}
 use Rattle.formats.specs.Reading.Nets.{WeightedNet, readWeighted}
 use Rattle.formats.specs.declared.refusal.Refusal.{Refusal}
@@ -27,11 +27,11 @@ use Rattle.formats.proofs.Laws.Faults.NetFaults.{net-answered}
 use Rattle.formats.proofs.Laws.Faults.ListingFaults.{listing-answered}
 use Rattle.formats.proofs.Laws.TextLengths.{net-short, listing-in-format}
 use Rattle.operations.specs.Accepting.{acceptListing}
-use Rattle.operations.specs.Answers.{stated, overwritten, judgement, judgeOf}
+use Rattle.operations.specs.Answers.{stated, overwritten, judgeOf}
 use Rattle.operations.specs.Demands.{LegalAndTrue, Accepts}
 use Rattle.operations.specs.Refusing.{JudgeRefuses}
 use Rattle.operations.proofs.Laws.Answers.{judge-refused, overwritten-beyond, overwritten-length}
-use Rattle.operations.proofs.Laws.Demands.{demands, of-net-text, true-accepted, accepted-is, judged, judge-true}
+use Rattle.operations.proofs.Laws.Demands.{of-net-text, true-accepted, accepted-is, judged, judge-true}
 use Rattle.operations.proofs.Laws.Judging.{judge-read}
 use Rattle.operations.proofs.Laws.Refusing.{judge-refuses}
 use Rattle.shorter_tree.specs.Kept.{Deletable}

@@ -10,7 +10,7 @@ use Rattle.quantities.specs.Inner.Linear.{up}
 use Rattle.quantities.specs.declared.point.Point.{Point}
 use Rattle.tree.specs.declared.header.Header.{Header}
 use Rattle.tree.specs.Lists.{range}
-use Rattle.tree.specs.Net.{Sink}
+use Rattle.tree.specs.Net.{Sink, size}
 use Rattle.tree.specs.Tree.{parentOf, Legal}
 use Rattle.tree.specs.Inner.Arrays.{pointAt, netOf, weightsOf, treeOf, parentsOf}
 use Rattle.tree.proofs.Laws.Lists.Tables.{table-length, table-at}
@@ -158,3 +158,7 @@ module _ (n s : ℕ) (ps : List ℕ) (L : Legal n (parentsOf n ps)) (n2 : 2 ≤ 
 
     pub holds-shorter : HoldsShorter n s ps xs ys rs ws ps′ xs′ ys′ rs′ ws′
     holds-shorter = record { net = holds-net; weights = holds-weights; tree = holds-tree }
+
+-- so many sinks remain
+pub shorter-size : (h : Header) (n s : ℕ) (ps : List ℕ) (xs ys rs ws : List ℤ) (ps′ : List ℕ) (xs′ ys′ rs′ ws′ : List ℤ) → HoldsShorter n s ps xs ys rs ws ps′ xs′ ys′ rs′ ws′ → size (without (netOf h n xs ys rs) s) ≡ n - 1
+shorter-size h n s ps xs ys rs ws ps′ xs′ ys′ rs′ ws′ closed = ap size (sym (closed .net h)) ∙ size-is h (n - 1) xs′ ys′ rs′

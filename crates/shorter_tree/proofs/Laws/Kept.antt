@@ -15,7 +15,7 @@ use Rattle.quantities.specs.declared.point.Point.{Point}
 use Rattle.quantities.specs.Delay.{delay}
 use Rattle.quantities.specs.Distance.{distance}
 use Rattle.quantities.proofs.Laws.Distance.{triangle}
-use Rattle.tree.specs.Lists.{sumOver, delta, count, range}
+use Rattle.tree.specs.Lists.{sumOver, delta, range}
 use Rattle.tree.specs.Net.{Net, size, required}
 use Rattle.tree.specs.Weights.{weightOf}
 use Rattle.tree.specs.Tree.{Tree, parent, parentOf, ancestor, place, Legal, LegalTree}

@@ -21,13 +21,12 @@ use Rattle.tree.proofs.Laws.Arrays.NetAndTree.{parents-at, place-at, size-is}
 use Rattle.tree.proofs.Laws.Trees.NamedDefects.{legal-only}
 use Rattle.formats.specs.ListingText.{ListingInRange}
 use Rattle.formats.specs.Inner.ListingReader.{listingHeld}
-use Rattle.operations.specs.Answers.{stated}
 use Rattle.operations.proofs.Laws.Accepting.{legal-no-sink}
 use Rattle.shorter_tree.specs.Deletion.{without, branchOf, pruned}
 use Rattle.shorter_tree.specs.Inner.Arrays.{old, HoldsLegal, HoldsShorter, SlackInRange}
 use Rattle.shorter_tree.proofs.Laws.ShorterLegal.{branch-point}
 use Rattle.shorter_tree.proofs.Laws.Kept.{place-old, shorter-legal}
-use Rattle.shorter_tree.proofs.Laws.HeldShorter.{old-below}
+use Rattle.shorter_tree.proofs.Laws.HeldShorter.{old-below, shorter-size}
 use Rattle.shorter_tree.proofs.Laws.ShorterInRange.{shorter-in-range, shorter-weighed, shorter-listed}
 
 module _ (h : Header) (n s : ℕ) (ps : List ℕ) (xs ys rs ws : List ℤ) (held : HoldsLegal h n ps xs ys rs ws) (n2 : 2 ≤ n) (s1 : 1 ≤ s) (sn : s ≤ n) where
@@ -51,7 +50,7 @@ module _ (h : Header) (n s : ℕ) (ps : List ℕ) (xs ys rs ws : List ℤ) (held
 
   module _ (ps′ : List ℕ) (xs′ ys′ rs′ ws′ : List ℤ) (closed : HoldsShorter n s ps xs ys rs ws ps′ xs′ ys′ rs′ ws′) where
     size-m : size (without N s) ≡ n - 1
-    size-m = ap size (sym (closed .net h)) ∙ size-is h (n - 1) xs′ ys′ rs′
+    size-m = shorter-size h n s ps xs ys rs ws ps′ xs′ ys′ rs′ ws′ closed
 
     pub shortened-legal : Legal (n - 1) (parentsOf (n - 1) ps′)
     shortened-legal =

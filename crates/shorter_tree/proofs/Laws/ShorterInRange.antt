@@ -28,7 +28,7 @@ use Rattle.formats.specs.ListingText.{ListingInRange}
 use Rattle.formats.proofs.Laws.Lines.Elements.{All, all-at, all-of}
 use Rattle.operations.specs.Answers.{stated}
 use Rattle.operations.proofs.Laws.PlanListing.{stated-in-range}
-use Rattle.shorter_tree.specs.Deletion.{dropAt, without, weightsWithout, branchOf, pruned}
+use Rattle.shorter_tree.specs.Deletion.{without, weightsWithout, branchOf, pruned}
 use Rattle.shorter_tree.specs.Inner.Arrays.{skip, old}
 use Rattle.shorter_tree.proofs.Laws.Dropping.{skip-le, gone-at, gone-map, gone-length}
 use Rattle.shorter_tree.proofs.Laws.ShorterLegal.{branch-point, old-in}

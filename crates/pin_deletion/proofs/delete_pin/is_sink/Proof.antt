@@ -1,6 +1,5 @@
 -- Whether a number is that of a sink: the two ends one after the other. No loop.
 use Rattle.pin_deletion.proofs.Laws.Deletions.{below-one, from-one}
-use borrow.Author.Needs.{needs}
 use Rattle.pin_deletion.proofs.delete_pin.is_sink.Statement.{statement}
 use Rattle.pin_deletion.proofs.delete_pin.is_sink.Tie as tie
 

@@ -1,5 +1,5 @@
 -- The arrays close up, the queue gets the vertices of the shorter tree, which is legal, and it is measured. No loop.
-use Prim.Native.Nat.{ℕ, _*_, _-_, _≤_}
+use Prim.Native.Nat.{ℕ, _-_}
 use mathlib.Core.Path.{_≡_, _∙_}
 use mathlib.Core.List.{List}
 use mathlib.Core.Option.{none}
