@@ -10,13 +10,13 @@ ghost use Rattle.operations.specs.Answers.{planNet, planOf, bytesOf, overwritte
 ghost use Rattle.first_plan.specs.Inner.Planning.{HasPlanRoom};
 use formats::read_net::HeadLines;
 use formats::read_net::NetRead;
-use formats::read_net::read_head;
-use formats::read_net::read_rest;
 use formats::reader::Place;
 use formats::refusal::Refusal;
 use operations::answers::PlanAnswer;
 use operations::emit::emit;
 use quantities::point::Point;
+use reading::read_net::read_head;
+use reading::read_net::read_rest;
 use tree::header::Header;
 use tree::limits::SINK_LIMIT;
 

@@ -1,13 +1,13 @@
-// The two texts: spelled and read, and why they are refused. What stands above reads them by `read_net` and `read_listing`; `writing` writes listings.
+// The two texts: how they are spelled, a line read or written, and why a text is refused. `reading` reads them, `writing` writes them.
 mod bytes;
 pub mod limits;
-mod number;
-mod ranges;
+pub mod number;
+pub mod ranges;
 pub mod read_listing;
 pub mod read_net;
-mod read_number;
-mod read_pair;
+pub mod read_number;
+pub mod read_pair;
 pub mod reader;
 pub mod refusal;
-mod scan;
+pub mod scan;
 pub mod write;

@@ -12,14 +12,14 @@ ghost use Rattle.judging.specs.Inner.Measuring.{answerFor, measuresAnswe
 use crate::kraft::kraft_maximum;
 use formats::read_net::HeadLines;
 use formats::read_net::NetRead;
-use formats::read_net::read_head;
-use formats::read_net::read_rest;
 use formats::reader::Place;
 use operations::accept::Acceptance;
 use operations::accept::accept;
 use operations::answers::JudgeAnswer;
 use quantities::point::Point;
 use quantities::time::Time;
+use reading::read_net::read_head;
+use reading::read_net::read_rest;
 use tree::header::Header;
 use tree::limits::SINK_LIMIT;
 

@@ -8,10 +8,10 @@ ghost use Rattle.formats.specs.Inner.ListingReader.{HasVertices, listingHeld, S
 ghost use Rattle.operations.specs.Accepting.{vertexLine, trueOnly, acceptTree, acceptListing};
 ghost use Rattle.operations.specs.Inner.Acceptance.{HasRoom, acceptOutcome};
 use formats::read_listing::ListingRead;
-use formats::read_listing::read_listing;
 use formats::refusal::Refusal;
 use quantities::length::Length;
 use quantities::time::Time;
+use reading::read_listing::read_listing;
 use tree::children::wrong_children;
 use tree::descend::lowest_unreached;
 use tree::found::Found;

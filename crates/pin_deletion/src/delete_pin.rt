@@ -12,13 +12,13 @@ ghost use Rattle.pin_deletion.specs.Inner.Answers.{deletedOver, Answers}
 use crate::emit_both::emit_both;
 use formats::read_net::HeadLines;
 use formats::read_net::NetRead;
-use formats::read_net::read_head;
-use formats::read_net::read_rest;
 use formats::reader::Place;
 use formats::refusal::Refusal;
 use operations::accept::Acceptance;
 use operations::accept::accept;
 use quantities::point::Point;
+use reading::read_net::read_head;
+use reading::read_net::read_rest;
 use shorter_tree::shorten::shorten;
 use tree::header::Header;
 use tree::limits::SINK_LIMIT;

@@ -9,12 +9,12 @@ ghost use Rattle.short_tree.specs.Inner.Arrays.{PlanRoom};
 use crate::make::make;
 use formats::read_net::HeadLines;
 use formats::read_net::NetRead;
-use formats::read_net::read_head;
-use formats::read_net::read_rest;
 use formats::reader::Place;
 use operations::answers::PlanAnswer;
 use operations::emit::emit;
 use quantities::point::Point;
+use reading::read_net::read_head;
+use reading::read_net::read_rest;
 use tree::header::Header;
 use tree::limits::SINK_LIMIT;
 
