@@ -30,7 +30,7 @@ pub record TextsOf (net listing : List ℕ) (N : Net) (w : List ℕ) (T : Tree) 
   pub listed : ListingInFormat (size N) listing (stated N T)
   pub legal : LegalTree N T
 
--- for each such sink
+-- for each sink that may be deleted
 pub record DeletionFor (net listing : List ℕ) (N : Net) (w : List ℕ) (T : Tree) (s : ℕ) : Type 0 where
   pub kept : Kept N w T s
   -- the two texts are given where both fit
@@ -72,6 +72,7 @@ pub record Outputs (net listing : List ℕ) (s : ℕ) (netOut listingOut : List 
 pub record PinDeletion : Type 0 where
   -- "an accepted listing": what is said below of texts is said of every listing that judge accepts
   pub accepted : (net listing : List ℕ) → Accepts net listing ↔ ((N : Net) × (w : List ℕ) × (T : Tree) × TextsOf net listing N w T)
+  -- every sink of a net of two or more
   pub deletes : (net listing : List ℕ) (N : Net) (w : List ℕ) (T : Tree) → TextsOf net listing N w T → (s : ℕ) → Deletable N s → DeletionFor net listing N w T s
   -- each refusal exactly for its reason
   pub refuses : (net listing : List ℕ) (s netRoom listingRoom : ℕ) (e : Refusal) → (deletionOf net listing s netRoom listingRoom ≡ refused e) ↔ DeletionRefuses net listing s netRoom listingRoom e

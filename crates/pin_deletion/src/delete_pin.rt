@@ -6,8 +6,8 @@ ghost use Rattle.tree.specs.Inner.Arrays.{netOf, treeOf, weightsOf, HoldsNet, H
 ghost use Rattle.formats.specs.Inner.Readers.{HeadHeld, HasPlace};
 ghost use Rattle.formats.specs.Inner.ListingReader.{HasVertices};
 ghost use Rattle.operations.specs.Inner.Acceptance.{HasRoom};
-ghost use Rattle.pin_deletion.specs.Deletions.{isSink, deleted, deletionOf, netOutput, listingOutput, deletionAnswer};
 ghost use Rattle.shorter_tree.specs.Inner.Arrays.{HoldsLegal, SlackInRange};
+ghost use Rattle.pin_deletion.specs.Deletions.{isSink, deleted, deletionOf, netOutput, listingOutput, deletionAnswer};
 ghost use Rattle.pin_deletion.specs.Inner.Answers.{deletedOver, Answers};
 use crate::emit_both::emit_both;
 use formats::read_net::HeadLines;

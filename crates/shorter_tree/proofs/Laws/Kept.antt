@@ -73,6 +73,10 @@ weight-old w n (suc s) b (suc i) s1 sn nb h l =
     let e : suc s - 1 ≡ s = omega arith in
     ap (λ j. getD (dropAt j w) i 0) e ∙ gone-at w s i 0 ∙ ap (weightOf w) (sym (skip-low b (suc (skip s i)) (omega (arith, skip-le s i))))
 
+-- one sink less
+pub size-less : (N : Net) (s : ℕ) → 1 ≤ s → s ≤ size N → suc (size (without N s)) ≡ size N
+size-less N s s1 sn = gone-length (N .sinks) (s - 1) (omega arith)
+
 slack-le : (a a′ : ℤ) (A B A′ B′ : ℕ) → a′ ≡ a → A′ ≤ A → B′ ≤ B → (a -ℤ pos A -ℤ pos B) ≤ℤ (a′ -ℤ pos A′ -ℤ pos B′)
 slack-le a a′ A B A′ B′ e h l = subst (λ z. (a -ℤ pos A -ℤ pos B) ≤ℤ (z -ℤ pos A′ -ℤ pos B′)) (sym e)
     (omega (arith, whole, -is (a -ℤ pos A) (pos B), -is a (pos A), -is (a -ℤ pos A′) (pos B′), -is a (pos A′)))
@@ -110,8 +114,8 @@ module _ (N : Net) (T : Tree) (s : ℕ) (legal : LegalTree N T) (n2 : 2 ≤ size
   sb : s < b
   sb = omega (arith, nb)
 
-  pub mn : suc m ≡ n
-  mn = gone-length (N .sinks) (s - 1) (omega arith)
+  less : suc m ≡ n
+  less = size-less N s s1 sn
 
   no-child : (v : ℕ) → parentOf P v ≢ s
   no-child = childless n P L n2 s s1 sn
@@ -120,12 +124,12 @@ module _ (N : Net) (T : Tree) (s : ℕ) (legal : LegalTree N T) (n2 : 2 ≤ size
   ab = up-b n P L n2 s s1 sn
 
   shape : Legal m (T′ .parents)
-  shape = pruned-legal n P L n2 s s1 sn m mn
+  shape = pruned-legal n P L n2 s s1 sn m less
 
   pub shorter-legal : LegalTree N′ T′
   shorter-legal = record {
     shape = shape;
-    placed = omega (arith, gone-length (T .points) (b - suc n) (omega (arith, legal .placed, nb, branch-point n P L n2 s s1 sn .1)), legal .placed, mn);
+    placed = omega (arith, gone-length (T .points) (b - suc n) (omega (arith, legal .placed, nb, branch-point n P L n2 s s1 sn .1)), legal .placed, less);
   }
 
   -- the new ends of each edge
@@ -148,7 +152,7 @@ module _ (N : Net) (T : Tree) (s : ℕ) (legal : LegalTree N T) (n2 : 2 ≤ size
   in-order = number-order s b sb
 
   pub no-holes : (w : ℕ) → w < 2 * m → (v : ℕ) × (v < 2 * n) × ((v ≢ s) × (v ≢ b)) × (renumber s b v ≡ w)
-  no-holes w h = (old s b w, old-in n P L n2 s s1 sn m mn w h, old-stays s b sb w, number-old s b sb w)
+  no-holes w h = (old s b w, old-in n P L n2 s s1 sn m less w h, old-stays s b sb w, number-old s b sb w)
 
   -- the new parent of a vertex that stays
   parent-new : (v : ℕ) → v ≢ s → v ≢ b → parent T′ (renumber s b v) ≡ renumber s b (above b a (parent T v))
@@ -166,19 +170,19 @@ module _ (N : Net) (T : Tree) (s : ℕ) (legal : LegalTree N T) (n2 : 2 ≤ size
   sink-in t h l d = go (renumber s b t) (stands s b sb t d (omega (arith, nb)))
     where
       go : (w : ℕ) → Stands s b t w → (1 ≤ w) × (w ≤ m)
-      go w (low q e) = omega (arith, mn)
-      go w (mid q c e) = omega (arith, mn)
+      go w (low q e) = omega (arith, less)
+      go w (mid q c e) = omega (arith, less)
       go w (high q e) = absurd (omega (arith, nb))
 
   pub same-required : (t : ℕ) → 1 ≤ t → t ≤ n → t ≢ s → required N′ (renumber s b t) ≡ required N t
   same-required t h l d =
       let i : (1 ≤ renumber s b t) × (renumber s b t ≤ m) = sink-in t h l d in
-      required-old N s b (renumber s b t) s1 sn nb (i .0) (omega (arith, mn)) ∙ ap (required N) (old-number s b sb t d (omega (arith, nb)))
+      required-old N s b (renumber s b t) s1 sn nb (i .0) (omega (arith, less)) ∙ ap (required N) (old-number s b sb t d (omega (arith, nb)))
 
   pub same-weight : (w : List ℕ) (t : ℕ) → 1 ≤ t → t ≤ n → t ≢ s → weightOf (weightsWithout w s) (renumber s b t) ≡ weightOf w t
   same-weight w t h l d =
       let i : (1 ≤ renumber s b t) × (renumber s b t ≤ m) = sink-in t h l d in
-      weight-old w n s b (renumber s b t) s1 sn nb (i .0) (omega (arith, mn)) ∙ ap (weightOf w) (old-number s b sb t d (omega (arith, nb)))
+      weight-old w n s b (renumber s b t) s1 sn nb (i .0) (omega (arith, less)) ∙ ap (weightOf w) (old-number s b sb t d (omega (arith, nb)))
 
   edge-new : (w : ℕ) → edgeDelay N′ T′ w ≡ between N T (above b a (parent T (old s b w))) (old s b w)
   edge-new w = ap₂ (delay (N .wire)) (upper w) (place-new w)
@@ -192,8 +196,8 @@ module _ (N : Net) (T : Tree) (s : ℕ) (legal : LegalTree N T) (n2 : 2 ≤ size
       let eF′ : 2 * m - 1 ≡ length (T′ .parents) = omega (arith, shape .size) in
       let r : ancestor (parent T) F t ≡ 0 = ap (λ k. ancestor (parent T) k t) (sym eF) ∙ legal-reach n P L t (omega arith) in
       let r′ : ancestor (parent T′) (length (T′ .parents)) w ≡ 0 = ap (λ k. ancestor (parent T′) k w) (sym eF′) ∙ legal-reach m (T′ .parents) shape w (omega arith) in
-      let k : Walk n m s b mn s1 sn nb (parent T) (parent T′) refl no-child ab step (between N T) (between-metric N T) (edgeDelay N′ T′) edge-new F t
-      = walk n m s b mn s1 sn nb (parent T) (parent T′) refl no-child ab step (between N T) (between-metric N T) (edgeDelay N′ T′) edge-new F t d r in
+      let k : Walk n m s b less s1 sn nb (parent T) (parent T′) refl no-child ab step (between N T) (between-metric N T) (edgeDelay N′ T′) edge-new F t
+      = walk n m s b less s1 sn nb (parent T) (parent T′) refl no-child ab step (between N T) (between-metric N T) (edgeDelay N′ T′) edge-new F t d r in
       let e : renumber s b (above b a t) ≡ w = ap (renumber s b) (above-other b a t (omega (arith, nb))) in
       let q : pathUp (parent T′) (k .steps) (renumber s b (above b a t)) ≡ path T′ w =
       ap (pathUp (parent T′) (k .steps)) e ∙ path-same (parent T′) (k .steps) (length (T′ .parents)) w refl (ap (ancestor (parent T′) (k .steps)) (sym e) ∙ k .reach) r′ in
@@ -204,11 +208,11 @@ module _ (N : Net) (T : Tree) (s : ℕ) (legal : LegalTree N T) (n2 : 2 ≤ size
   pub worst-kept : worstSlack N T ≤ℤ worstSlack N′ T′
   worst-kept =
       let W : Least (range 1 n) (slack N T) (worstSlack N T) = worst-is-least N T (omega arith) in
-      let W′ : Least (range 1 m) (slack N′ T′) (worstSlack N′ T′) = worst-is-least N′ T′ (omega (arith, mn)) in
+      let W′ : Least (range 1 m) (slack N′ T′) (worstSlack N′ T′) = worst-is-least N′ T′ (omega (arith, less)) in
       let w : ℕ = W′ .at in
       let i : (1 ≤ w) × (w < 1 + m) = range-in 1 m w (W′ .in-list) in
       let t : ℕ = old s b w in
-      let o : (1 ≤ t) × (t ≤ n) = old-sink n P L n2 s s1 sn m mn w (i .0) (omega arith) in
+      let o : (1 ≤ t) × (t ≤ n) = old-sink n P L n2 s s1 sn m less w (i .0) (omega arith) in
       let x : slack N T t ≤ℤ slack N′ T′ (renumber s b t) = slack-kept t (o .0) (o .1) (old-stays s b sb w .0) in
       let y : slack N T t ≤ℤ worstSlack N′ T′ = subst (λ z. slack N T t ≤ℤ z) (ap (slack N′ T′) (number-old s b sb w) ∙ W′ .is) x in
       let z : worstSlack N T ≤ℤ slack N T t = W .below t (in-range 1 n t (o .0) (omega arith)) in
@@ -237,11 +241,11 @@ module _ (N : Net) (T : Tree) (s : ℕ) (legal : LegalTree N T) (n2 : 2 ≤ size
   unfolding wireLength
   wire-kept =
       let k : ℕ = 2 * m - 1 in
-      let en : 2 * n - 1 ≡ suc (suc k) = omega (arith, mn, n2) in
+      let en : 2 * n - 1 ≡ suc (suc k) = omega (arith, less, n2) in
       let A : sumOver (range 1 k) (edgeLength N′ T′) ≡ sum 1 k (edgeLength N′ T′) = sumOver-range 1 k (edgeLength N′ T′) in
       let B : sum 1 k (edgeLength N′ T′) ≤ sum 1 k (λ w. long (old s b w)) = sum-mono 1 k (edgeLength N′ T′) (λ w. long (old s b w)) (λ w p q. edge-le w) in
-      let C : sum 1 k (λ w. long (old s b w)) + long (skip b s) ≡ sum 1 (suc k) (λ w. long (skip b w)) = sum-skip 1 k s (λ w. long (skip b w)) s1 (omega (arith, mn, n2)) in
-      let E : sum 1 (suc k) (λ w. long (skip b w)) + long b ≡ sum 1 (suc (suc k)) long = sum-skip 1 (suc k) b long (omega (arith, sb)) (omega (arith, branch-point n P L n2 s s1 sn, mn)) in
+      let C : sum 1 k (λ w. long (old s b w)) + long (skip b s) ≡ sum 1 (suc k) (λ w. long (skip b w)) = sum-skip 1 k s (λ w. long (skip b w)) s1 (omega (arith, less, n2)) in
+      let E : sum 1 (suc k) (λ w. long (skip b w)) + long b ≡ sum 1 (suc (suc k)) long = sum-skip 1 (suc k) b long (omega (arith, sb)) (omega (arith, branch-point n P L n2 s s1 sn, less)) in
       let G : sum 1 (suc (suc k)) long ≡ sum 1 (suc (suc k)) (edgeLength N T) + sum 1 (suc (suc k)) (λ v. D a b * delta b (parent T v)) = sum-add 1 (suc (suc k)) (edgeLength N T) (λ v. D a b * delta b (parent T v)) in
       let H : sum 1 (suc (suc k)) (λ v. D a b * delta b (parent T v)) ≡ D a b * sum 1 (suc (suc k)) (λ v. delta b (parent T v)) = sum-scale 1 (suc (suc k)) (D a b) (λ v. delta b (parent T v)) in
       let eP : suc (suc k) ≡ length P = omega (arith, L .size) in
@@ -258,7 +262,7 @@ kept N w T s legal d =
     let s1 = d .1 in
     let sn = d .2 in
     record {
-      one-less = mn N T s legal n2 s1 sn;
+      one-less = size-less N s s1 sn;
       same-head = (refl, refl, refl, refl);
       legal = shorter-legal N T s legal n2 s1 sn;
       in-order = λ u v a b. in-order N T s legal n2 s1 sn u v (a .0) (a .1) (b .0) (b .1);

@@ -32,13 +32,13 @@ use Rattle.shorter_tree.specs.Deletion.{without, weightsWithout, branchO
 use Rattle.shorter_tree.specs.Inner.Arrays.{skip, old}
 use Rattle.shorter_tree.proofs.Laws.Dropping.{skip-le, gone-at, gone-map, gone-length}
 use Rattle.shorter_tree.proofs.Laws.ShorterLegal.{branch-point, old-in}
-use Rattle.shorter_tree.proofs.Laws.Kept.{place-old, mn, shorter-legal, worst-kept}
+use Rattle.shorter_tree.proofs.Laws.Kept.{place-old, size-less, shorter-legal, worst-kept}
 
 -- ---- the net
 
 module _ (N : Net) (s : ℕ) (s1 : 1 ≤ s) (sn : s ≤ size N) where
-  pub size-less : suc (size (without N s)) ≡ size N
-  size-less = gone-length (N .sinks) (s - 1) (omega arith)
+  less : suc (size (without N s)) ≡ size N
+  less = size-less N s s1 sn
 
   sink-less : (i : ℕ) → sinkAt (without N s) (suc i) ≡ sinkAt N (suc (skip (s - 1) i))
   sink-less i = ap (λ r. getD r i (N .root)) (gone-map (λ s. s .point) (N .sinks) (s - 1)) ∙ gone-at (map (λ s. s .point) (N .sinks)) (s - 1) i (N .root)
@@ -49,7 +49,7 @@ module _ (N : Net) (s : ℕ) (s1 : 1 ≤ s) (sn : s ≤ size N) where
   -- what holds of each sink of N holds of each that remains
   each : (P : ℕ → Type 0) (Q : ℕ → Type 0) → ((i : ℕ) → Q (suc (skip (s - 1) i)) → P (suc i)) → ((t : ℕ) → 1 ≤ t → t ≤ size N → Q t) → (t : ℕ) → 1 ≤ t → t ≤ size (without N s) → P t
   each P Q same all zero h l = absurd (omega arith)
-  each P Q same all (suc i) h l = same i (all (suc (skip (s - 1) i)) (omega arith) (omega (arith, skip-le (s - 1) i, size-less)))
+  each P Q same all (suc i) h l = same i (all (suc (skip (s - 1) i)) (omega arith) (omega (arith, skip-le (s - 1) i, less)))
 
   pub shorter-near : ((t : ℕ) → 1 ≤ t → t ≤ size N → pinDistance N t ≤ pinLimit) → (t : ℕ) → 1 ≤ t → t ≤ size (without N s) → pinDistance (without N s) t ≤ pinLimit
   shorter-near = each (λ t. pinDistance (without N s) t ≤ pinLimit) (λ t. pinDistance N t ≤ pinLimit) (λ i h. subst (λ p. distance (N .root) p ≤ pinLimit) (sym (sink-less i)) h)
@@ -61,14 +61,14 @@ module _ (N : Net) (s : ℕ) (s1 : 1 ≤ s) (sn : s ≤ size N) where
       branch = R .branch;
       wire = R .wire;
       need = R .need;
-      sinks = omega (arith, size-less, R .sinks);
+      sinks = omega (arith, less, R .sinks);
       points = each (λ t. PointWithin positionLimit (sinkAt (without N s) t)) (λ t. PointWithin positionLimit (sinkAt N t)) (λ i h. subst (PointWithin positionLimit) (sym (sink-less i)) h) (R .points);
       required = each (λ t. Within requiredLimit (required (without N s) t)) (λ t. Within requiredLimit (required N t)) (λ i h. subst (Within requiredLimit) (sym (required-less i)) h) (R .required);
     }
 
     pub shorter-weighed : (w : List ℕ) → WeightsInRange (size N) w → WeightsInRange (size (without N s)) (weightsWithout w s)
     shorter-weighed w R = record {
-      size = omega (arith, size-less, gone-length w (s - 1) (omega (arith, R .size)), R .size);
+      size = omega (arith, less, gone-length w (s - 1) (omega (arith, R .size)), R .size);
       each = each (λ t. InWeights (weightsWithout w s) t) (λ t. InWeights w t) (λ i h. subst (λ (k : ℕ). (1 ≤ k) × (k ≤ weightLimit)) (sym (gone-at w (s - 1) i 0)) h) (R .each);
     }
       where
@@ -103,7 +103,7 @@ module _ (N : Net) (T : Tree) (s : ℕ) (legal : LegalTree N T) (n2 : 2 ≤ size
     shorter-within x h =
         let nb = branch-point (size N) (T .parents) (legal .shape) n2 s s1 sn .0 in
         subst (PointWithin positionLimit) (sym (place-old N T s (branchOf T s) s1 sn nb x))
-        (within (old s (branchOf T s) x) (old-in (size N) (T .parents) (legal .shape) n2 s s1 sn (size (without N s)) (mn N T s legal n2 s1 sn) x h))
+        (within (old s (branchOf T s) x) (old-in (size N) (T .parents) (legal .shape) n2 s s1 sn (size (without N s)) (size-less N s s1 sn) x h))
 
     -- the worst slack does not fall, and is at most a required arrival
     shorter-slack : Within slackLimit (worstSlack N T) → Within slackLimit (worstSlack (without N s) (pruned N T s))
