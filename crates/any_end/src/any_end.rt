@@ -20,7 +20,7 @@ use reading::read_net::{read_head, read_rest};
 use tree::header::Header;
 use tree::limits::{REQUIRED_LIMIT, SINK_LIMIT};
 
-#[derive(Drop)]
+#[derive(Clone, Copy)]
 pub enum AnyEndAnswer {
     AnyEndGiven { slack: Time },
     AnyEndRefused { refusal: Refusal },

@@ -23,7 +23,7 @@ pub const ANSWER_LENGTH: usize = 128;
 pub const COMPLAINT_LENGTH: usize = 256;
 
 // How many bytes of the two buffers are the answer and the complaint.
-#[derive(Drop)]
+#[derive(Clone, Copy)]
 pub struct Lengths {
     pub answer: usize,
     pub complaint: usize,

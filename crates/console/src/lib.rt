@@ -1,4 +1,6 @@
 // What the programs share: a text read to its end, the answer in bytes, a refusal in words, one write.
+#![tactic(auto)]
+
 pub mod answer;
 mod complain;
 mod lines;

@@ -8,7 +8,7 @@ use libc::{EINTR, STDERR_FILENO, STDOUT_FILENO};
 const INTERRUPTIONS: usize = 1_000;
 
 // How the reading of a text went: it ended after so many bytes, it filled its room before any end was seen, or a read failed.
-#[derive(Drop)]
+#[derive(Clone, Copy)]
 pub enum Input {
     Ended { bytes: usize },
     Full,

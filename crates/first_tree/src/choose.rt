@@ -16,7 +16,7 @@ use quantities::time::Time;
 use tree::measure::point;
 
 // An edge that may be split: its lower end, what the worst slack becomes, and how far the lower end is from the new sink.
-#[derive(Drop)]
+#[derive(Clone, Copy)]
 pub struct Edge {
     pub end: usize,
     pub score: Time,
@@ -24,7 +24,7 @@ pub struct Edge {
 }
 
 // A sink that is in, by its place in the order of insertion, and what its edge scores.
-#[derive(Drop)]
+#[derive(Clone, Copy)]
 pub struct Scored {
     pub place: usize,
     pub score: Time,

@@ -6,7 +6,7 @@ ghost use Rattle.formats.specs.Inner.Scanning.{held_by, magnitude_cap};
 // Every number of this magnitude or more is held as this one.
 pub const MAGNITUDE_CAP: u64 = 1_000_000_000_000_000_000;
 
-#[derive(Drop)]
+#[derive(Clone, Copy)]
 pub struct Number {
     pub neg: bool,
     pub mag: u64,

@@ -8,7 +8,7 @@ ghost use Rattle.formats.specs.Inner.Scanning.{magnitude_cap};
 use crate::number::{MAGNITUDE_CAP, Number};
 
 // Both ends are in.
-#[derive(Drop)]
+#[derive(Clone, Copy)]
 pub struct Range {
     pub from: i64,
     pub to: i64,

@@ -5,14 +5,14 @@ use quantities::length::Length;
 use quantities::time::Time;
 
 // The stated slack and wire of a listing whose tree stands in the arrays; or a refusal.
-#[derive(Drop)]
+#[derive(Clone, Copy)]
 pub enum ListingRead {
     ListingHeld { slack: Time, wire: Length },
     ListingRefused { refusal: Refusal },
 }
 
 // The first three lines, and the place of the first vertex's; or a refusal.
-#[derive(Drop)]
+#[derive(Clone, Copy)]
 pub enum StatedLines {
     StatedRead {
         slack: Time,
@@ -25,7 +25,7 @@ pub enum StatedLines {
 }
 
 // The line of a vertex, and the place of the next line; or a refusal. A leaf's line has no position: 0,0.
-#[derive(Drop)]
+#[derive(Clone, Copy)]
 pub enum VertexLine {
     VertexRead {
         parent: usize,
@@ -39,7 +39,7 @@ pub enum VertexLine {
 }
 
 // The place after the lines of some vertices, which the arrays hold; or a refusal.
-#[derive(Drop)]
+#[derive(Clone, Copy)]
 pub enum VertexLines {
     VerticesRead { next: Place },
     VerticesRefused { refusal: Refusal },

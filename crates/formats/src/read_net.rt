@@ -5,7 +5,7 @@ use quantities::point::Point;
 use tree::header::Header;
 
 // The first five lines, and where the sinks' lines start; or a refusal.
-#[derive(Drop)]
+#[derive(Clone, Copy)]
 pub enum HeadLines {
     HeadRead {
         header: Header,
@@ -19,14 +19,14 @@ pub enum HeadLines {
 }
 
 // The place of the line after a sink's; or a refusal.
-#[derive(Drop)]
+#[derive(Clone, Copy)]
 pub enum SinkLine {
     SinkRead { next: Place },
     SinkRefused { refusal: Refusal },
 }
 
 // Whether the sinks of a net stand in the arrays; or a refusal.
-#[derive(Drop)]
+#[derive(Clone, Copy)]
 pub enum NetRead {
     NetHeld,
     NetRefused { refusal: Refusal },

@@ -8,7 +8,7 @@ use crate::reader::{Place, Taken, read_line};
 use crate::refusal::{Refusal, Text};
 
 // The number, and the place of the next line; or a refusal.
-#[derive(Drop)]
+#[derive(Clone, Copy)]
 pub enum NumberLine {
     NumberRead { value: i64, next: Place },
     NumberRefused { refusal: Refusal },

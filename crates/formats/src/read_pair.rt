@@ -10,7 +10,7 @@ use crate::refusal::{Refusal, Text};
 use crate::scan::Numbers;
 
 // The two numbers, and the place of the next line; or a refusal.
-#[derive(Drop)]
+#[derive(Clone, Copy)]
 pub enum PairLine {
     PairRead {
         first: i64,

@@ -15,14 +15,14 @@ pub struct LineReader<'a> {
 }
 
 // Where a line starts, and its number.
-#[derive(Drop)]
+#[derive(Clone, Copy)]
 pub struct Place {
     pub at: usize,
     pub line: usize,
 }
 
 // The numbers of a line that is as due, and the place of the next line; or a line that is not.
-#[derive(Drop)]
+#[derive(Clone, Copy)]
 pub enum Taken {
     AsDue { numbers: Numbers, next: Place },
     NotDue,

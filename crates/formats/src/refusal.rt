@@ -3,13 +3,13 @@ ghost use Rattle.std.specs.Prelude.{◌≡◌};
 ghost use Rattle.formats.specs.Refusals.{text_number, told};
 
 // In which text the fault is.
-#[derive(Drop)]
+#[derive(Clone, Copy)]
 pub enum Text {
     InNet,
     InListing,
 }
 
-#[derive(Drop)]
+#[derive(Clone, Copy)]
 pub enum Refusal {
     TooLong { text: Text },
     NotDue { text: Text, line: usize },
@@ -30,7 +30,7 @@ pub enum Refusal {
 }
 
 // A refusal by its number, its text (1 the net, 2 the listing, 0 neither) and its line.
-#[derive(Drop)]
+#[derive(Clone, Copy)]
 pub struct Told {
     pub number: u8,
     pub text: u8,

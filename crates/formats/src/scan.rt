@@ -8,21 +8,21 @@ use crate::bytes::{COMMA, END, MINUS, ZERO};
 use crate::number::{Number, is_digit};
 
 // A run of digits, and where it ends.
-#[derive(Drop)]
+#[derive(Clone, Copy)]
 struct Run {
     number: Number,
     end: usize,
 }
 
 // A number, and where it ends; or no number.
-#[derive(Drop)]
+#[derive(Clone, Copy)]
 pub enum Scanned {
     Value { number: Number, next: usize },
     Misspelt,
 }
 
 // The numbers of a line, in order; those that the line does not have are 0.
-#[derive(Drop)]
+#[derive(Clone, Copy)]
 pub struct Numbers {
     pub first: Number,
     pub second: Number,
@@ -31,7 +31,7 @@ pub struct Numbers {
 }
 
 // The numbers of a line that is spelt right, and where the next line starts; or a line that is not.
-#[derive(Drop)]
+#[derive(Clone, Copy)]
 pub enum Line {
     Spelt { numbers: Numbers, next: usize },
     Misspelled,

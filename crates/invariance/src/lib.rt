@@ -1,1 +1,3 @@
 // Theorems alone: what becomes of the first plan when the net changes.
+#![tactic(auto)]
+

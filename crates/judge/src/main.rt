@@ -1,4 +1,6 @@
 // Reads a net in net.txt and a listing in tree.txt, and prints the measures of its tree, or the refusal. A refusal is told in words on standard error too.
+#![tactic(auto)]
+
 use console::answer::{ANSWER_LENGTH, COMPLAINT_LENGTH, print_judgement};
 use console::stream::{Input, read_file, write_out};
 use formats::limits::{LISTING_LENGTH_LIMIT, NET_LENGTH_LIMIT};

@@ -24,7 +24,7 @@ fn worst_if_split(slacks: &[i64], worst: Time, branch: Time, u: usize) -> Time
 }
 
 // A sink, and what the worst slack becomes if the edge above it is split.
-#[derive(Drop)]
+#[derive(Clone, Copy)]
 struct Candidate {
     sink: usize,
     worst: Time,

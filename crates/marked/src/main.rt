@@ -1,5 +1,7 @@
 // The marked nets and lines that are checked by running the plans and judge: number, text and line of what each returns, and plan's bytes; of the nets of 02's
 // requests 1, 4, 5, 6 and 7 the listing, of those of request 8 the score's bits, of those of request 9 both texts.
+#![tactic(auto)]
+
 use first_plan::plan::plan;
 use formats::limits::{LISTING_LENGTH_LIMIT, NET_LENGTH_LIMIT};
 use formats::refusal::{Refusal, tell};

@@ -18,7 +18,7 @@ use tree::header::Header;
 use tree::measure::measure_tree;
 
 // The slack and the wire of a listing that is accepted, as it states them; or a refusal.
-#[derive(Drop)]
+#[derive(Clone, Copy)]
 pub enum Acceptance {
     AcceptedListing { slack: Time, wire: Length },
     NotAccepted { refusal: Refusal },

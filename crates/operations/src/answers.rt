@@ -3,7 +3,7 @@ use formats::refusal::Refusal;
 use quantities::length::Length;
 use quantities::time::Time;
 
-#[derive(Drop)]
+#[derive(Clone, Copy)]
 pub enum PlanAnswer {
     Planned {
         slack: Time,
@@ -15,7 +15,7 @@ pub enum PlanAnswer {
     },
 }
 
-#[derive(Drop)]
+#[derive(Clone, Copy)]
 pub enum JudgeAnswer {
     Judged {
         slack: Time,

@@ -15,7 +15,7 @@ use tree::limits::REQUIRED_LIMIT;
 use tree::measure::cost_above;
 
 // What is seen from a vertex: when it must send for the first of the sinks under it to be in time, and when what the last of them sends is there.
-#[derive(Drop)]
+#[derive(Clone, Copy)]
 struct Seen {
     need: Time,
     send: Time,

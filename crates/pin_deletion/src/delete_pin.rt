@@ -21,7 +21,7 @@ use tree::header::Header;
 use tree::limits::SINK_LIMIT;
 
 // How many bytes went into each output; or a refusal, and neither was touched.
-#[derive(Drop)]
+#[derive(Clone, Copy)]
 pub enum DeletionAnswer {
     Deleted {
         net_bytes: usize,

@@ -1,4 +1,6 @@
 // Reads a net on standard input and prints the listing of its short tree, or the refusal. A refusal is told in words on standard error too.
+#![tactic(auto)]
+
 use console::answer::{COMPLAINT_LENGTH, print_plan_short};
 use console::stream::{Input, read_text, write_out};
 use formats::limits::{LISTING_LENGTH_LIMIT, NET_LENGTH_LIMIT};

@@ -2,7 +2,7 @@
 ghost use Rattle.std.specs.Prelude.{◌≡◌, ◌+◌, ◌≤◌, ltb, eqb};
 ghost use Rattle.quantities.specs.Inner.Reach.{length_reach};
 
-#[derive(Drop)]
+#[derive(Clone, Copy)]
 pub struct Length(u64);
 
 impl Length {

@@ -8,7 +8,7 @@ use crate::point::{Point, span};
 use crate::time::Time;
 use crate::wire_factor::WireFactor;
 
-#[derive(Drop)]
+#[derive(Clone, Copy)]
 pub struct MetalPair {
     pub horizontal: WireFactor,
     pub vertical: WireFactor,

@@ -8,7 +8,7 @@ ghost use Rattle.quantities.specs.Median.{median, median_point};
 use crate::length::Length;
 
 // A position in nanometres. Its coordinates are no lengths: they may be negative.
-#[derive(Drop)]
+#[derive(Clone, Copy)]
 pub struct Point {
     pub x: i64,
     pub y: i64,

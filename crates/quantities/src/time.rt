@@ -5,7 +5,7 @@ ghost use Rattle.quantities.specs.Ranges.{Within};
 ghost use Rattle.quantities.specs.Inner.Reach.{time_reach, factor_reach, term_reach};
 ghost use Rattle.quantities.specs.MinMax.{min_ℤ, max_ℤ};
 
-#[derive(Drop)]
+#[derive(Clone, Copy)]
 pub struct Time(i64);
 
 impl Time {

@@ -7,7 +7,7 @@ ghost use Rattle.quantities.specs.Inner.Reach.{factor_reach, coordinate_reach};
 use crate::length::Length;
 use crate::time::Time;
 
-#[derive(Drop)]
+#[derive(Clone, Copy)]
 pub struct WireFactor(u64);
 
 impl WireFactor {

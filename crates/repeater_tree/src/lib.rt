@@ -1,4 +1,6 @@
 // The library for callers in C and Rust: the plans, judge, the score and the deletion of a pin on lent bytes, each figure through a reference of its own.
+#![tactic(auto)]
+
 ghost use Rattle.std.specs.Prelude.{◌≡◌, length};
 ghost use Rattle.operations.specs.Answers.{plan_of, plan_output, plan_answer, plan_figures, judge_of, judge_answer, judge_figures};
 ghost use Rattle.pin_deletion.specs.Deletions.{deletion_of, net_output, listing_output, deletion_answer, deletion_figures};

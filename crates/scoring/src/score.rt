@@ -12,7 +12,7 @@ use operations::accept::Acceptance;
 use quantities::length::Length;
 use quantities::time::Time;
 
-#[derive(Drop)]
+#[derive(Clone, Copy)]
 pub enum ScoreAnswer {
     Scored { score: f64 },
     ScoreRefused { refusal: Refusal },

@@ -10,7 +10,7 @@ use crate::limits::PARTS;
 use quantities::length::Length;
 use quantities::time::Time;
 
-#[derive(Drop)]
+#[derive(Clone, Copy)]
 pub struct Weights {
     alpha: f64,
     beta: f64,

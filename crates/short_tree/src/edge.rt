@@ -8,7 +8,7 @@ use quantities::point::{Point, distance, median_point};
 use tree::measure::point;
 
 // The edge to `lower`, and the wire that some sink adds there.
-#[derive(Drop)]
+#[derive(Clone, Copy)]
 pub struct Edge {
     pub lower: usize,
     pub added: Length,

@@ -1,5 +1,5 @@
 // The answer of a search over the vertices.
-#[derive(Drop)]
+#[derive(Clone, Copy)]
 pub enum Found {
     At(usize),
     Nothing,

@@ -2,7 +2,7 @@
 use quantities::metal_pair::MetalPair;
 use quantities::time::Time;
 
-#[derive(Drop)]
+#[derive(Clone, Copy)]
 pub struct Header {
     pub branch: Time,
     pub wire: MetalPair,

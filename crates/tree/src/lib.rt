@@ -1,4 +1,6 @@
 // The tree: what is measured of one, and the steps that the plans share.
+#![tactic(auto)]
+
 pub mod children;
 pub mod descend;
 pub mod found;

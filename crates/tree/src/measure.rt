@@ -16,7 +16,7 @@ use quantities::point::{Point, distance};
 use quantities::time::Time;
 
 // The worst slack and the wire so far, as measuring goes from vertex to vertex.
-#[derive(Drop)]
+#[derive(Clone, Copy)]
 pub struct Tally {
     pub worst: Time,
     pub wire: Length,

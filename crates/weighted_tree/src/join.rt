@@ -29,7 +29,7 @@ fn sink_goes_first(n: usize, k: usize, weights: &[i64], order: &[usize], i: usiz
 }
 
 // The vertex that is taken off the queues, and how many sinks and branch points have been taken then.
-#[derive(Drop)]
+#[derive(Clone, Copy)]
 struct Taken {
     vertex: usize,
     sinks: usize,

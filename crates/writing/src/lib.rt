@@ -1,4 +1,6 @@
 // A net and a tree's listing written, and their lengths, which are known before a byte is.
+#![tactic(auto)]
+
 pub mod line_length;
 pub mod listing_length;
 pub mod net_length;

@@ -8,8 +8,8 @@ use borrow.Author.Rules.{rules}
 use Rattle.repeater_tree.proofs.give.Statement.{statement}
 use Rattle.repeater_tree.proofs.give.Tie as tie
 
-enum-known-answer : tie.Need-enum-known-answer
-enum-known-answer c = search rules
+enum_known-answer : tie.Need-enum_known-answer
+enum_known-answer c = search rules
 
 attoseconds-requires : tie.Need-attoseconds-requires
 attoseconds-requires c κs = search rules
@@ -17,31 +17,31 @@ attoseconds-requires c κs = search rules
 nanometres-requires : tie.Need-nanometres-requires
 nanometres-requires c κs = search rules
 
-enum-known-answer-2 : tie.Need-enum-known-answer-2
-enum-known-answer-2 c = search rules
+enum_known-answer-in-PlanRefused-1 : tie.Need-enum_known-answer-in-PlanRefused-1
+enum_known-answer-in-PlanRefused-1 c = search rules
 
-tell-requires : tie.Need-tell-requires
-tell-requires c κs = search rules
+tell-told-requires : tie.Need-tell-told-requires
+tell-told-requires c κs = search rules
 
-returns : tie.Need-returns
-returns c =
-    let slack = c.before.attoseconds in
-    let given = c.before.before.before.answer.given in
-    (λ i. record { number = 0; text = 0; line = 0; slack = (to_z-of_z (fit slack.result slack.type-inv) ∙ slack.ensures) i; wire = c.nanometres.ensures i; bytes = given.0.1.1.0 }) ∙ ap plan_figures (sym given.1)
+returns-in-Planned : tie.Need-returns-in-Planned
+returns-in-Planned c =
+    let slack = c.attoseconds in
+    let given = c.answer-1.given in
+    (λ i. record { number = 0; text = 0; line = 0; slack = (to_z-of_z (fit slack.result slack.type_inv) ∙ slack.ensures) i; wire = c.nanometres.ensures i; bytes = given.0.1.1.0 }) ∙ ap plan_figures (sym given.1)
 
-returns-2 : tie.Need-returns-2
-returns-2 c =
-    let t = c.tell.ensures in
-    (λ i. record { number = (t i).number; text = (t i).text; line = (t i).line; slack = pos 0; wire = 0; bytes = 0 }) ∙ ap plan_figures (sym c.before.before.answer2.given.1)
+returns-in-PlanRefused : tie.Need-returns-in-PlanRefused
+returns-in-PlanRefused c =
+    let t = c.tell-told.ensures in
+    (λ i. record { number = (t i).number; text = (t i).text; line = (t i).line; slack = pos 0; wire = 0; bytes = 0 }) ∙ ap plan_figures (sym c.answer-in-PlanRefused-1.given.1)
 
 pub give_spec : {M : Type 1} → statement M
 give_spec =
     tie.close
     (tie.spec
-    enum-known-answer
+    enum_known-answer
     attoseconds-requires
     nanometres-requires
-    enum-known-answer-2
-    tell-requires
-    returns
-    returns-2)
+    enum_known-answer-in-PlanRefused-1
+    tell-told-requires
+    returns-in-Planned
+    returns-in-PlanRefused)

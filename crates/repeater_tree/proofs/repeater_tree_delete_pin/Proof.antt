@@ -5,54 +5,54 @@ use borrow.Author.Rules.{rules}
 use Rattle.repeater_tree.proofs.repeater_tree_delete_pin.Statement.{statement}
 use Rattle.repeater_tree.proofs.repeater_tree_delete_pin.Tie as tie
 
-delete-pin-requires : tie.Need-delete-pin-requires
-delete-pin-requires c κs = search rules
+delete_pin-requires : tie.Need-delete_pin-requires
+delete_pin-requires c κs = search rules
 
-enum-known-net-written : tie.Need-enum-known-net-written
-enum-known-net-written c = search rules
+enum_known-net_written : tie.Need-enum_known-net_written
+enum_known-net_written c = search rules
 
-enum-known-refusal : tie.Need-enum-known-refusal
-enum-known-refusal c = search rules
+enum_known-refusal : tie.Need-enum_known-refusal
+enum_known-refusal c = search rules
 
-tell-requires : tie.Need-tell-requires
-tell-requires c κs = search rules
+tell-told-requires : tie.Need-tell-told-requires
+tell-told-requires c κs = search rules
 
-same_length : tie.Need-same-length
-same_length c = search rules
+shape_of-net_out-in-Deleted : tie.Need-shape_of-net_out-in-Deleted
+shape_of-net_out-in-Deleted c = search rules
 
-same-length-2 : tie.Need-same-length-2
-same-length-2 c = search rules
+shape_of-listing_out-in-Deleted : tie.Need-shape_of-listing_out-in-Deleted
+shape_of-listing_out-in-Deleted c = search rules
 
-returns : tie.Need-returns
-returns c =
-    let d = c.before.before.before.before.before.before.before.delete-pin.ensures in
-    (ap deletion_figures (sym c.before.net-written.given.1 ∙ d.0), d.1)
+returns-in-Deleted : tie.Need-returns-in-Deleted
+returns-in-Deleted c =
+    let d = c.delete_pin.ensures in
+    (ap deletion_figures (sym c.net_written-1.given.1 ∙ d.0), d.1)
 
-same-length-3 : tie.Need-same-length-3
-same-length-3 c = search rules
+shape_of-net_out-in-DeletionRefused : tie.Need-shape_of-net_out-in-DeletionRefused
+shape_of-net_out-in-DeletionRefused c = search rules
 
-same-length-4 : tie.Need-same-length-4
-same-length-4 c = search rules
+shape_of-listing_out-in-DeletionRefused : tie.Need-shape_of-listing_out-in-DeletionRefused
+shape_of-listing_out-in-DeletionRefused c = search rules
 
-returns-2 : tie.Need-returns-2
-returns-2 c =
-    let t = c.tell.ensures in
-    let d = c.before.before.before.before.before.before.before.before.delete-pin.ensures in (
-      (λ i. record { number = (t i).number; text = (t i).text; line = (t i).line; net_bytes = 0; listing_bytes = 0 }) ∙ ap deletion_figures (sym c.before.before.refusal.given.1 ∙ d.0),
+returns-in-DeletionRefused : tie.Need-returns-in-DeletionRefused
+returns-in-DeletionRefused c =
+    let t = c.tell-told.ensures in
+    let d = c.delete_pin.ensures in (
+      (λ i. record { number = (t i).number; text = (t i).text; line = (t i).line; net_bytes = 0; listing_bytes = 0 }) ∙ ap deletion_figures (sym c.refusal-1.given.1 ∙ d.0),
       d.1,
     )
 
-pub repeater-tree-delete-pin-spec : {M : Type 1} → statement M
-repeater-tree-delete-pin-spec =
+pub repeater_tree_delete_pin_spec : {M : Type 1} → statement M
+repeater_tree_delete_pin_spec =
     tie.close
     (tie.spec
-    delete-pin-requires
-    enum-known-net-written
-    enum-known-refusal
-    tell-requires
-    same_length
-    same-length-2
-    returns
-    same-length-3
-    same-length-4
-    returns-2)
+    delete_pin-requires
+    enum_known-net_written
+    enum_known-refusal
+    tell-told-requires
+    shape_of-net_out-in-Deleted
+    shape_of-listing_out-in-Deleted
+    returns-in-Deleted
+    shape_of-net_out-in-DeletionRefused
+    shape_of-listing_out-in-DeletionRefused
+    returns-in-DeletionRefused)

@@ -5,17 +5,17 @@ use borrow.Author.Rules.{rules}
 use Rattle.repeater_tree.proofs.repeater_tree_plan.Statement.{statement}
 use Rattle.repeater_tree.proofs.repeater_tree_plan.Tie as tie
 
-plan-requires : tie.Need-plan-requires
-plan-requires c κs = search rules
+plan-answer-requires : tie.Need-plan-answer-requires
+plan-answer-requires c κs = search rules
 
 give-requires : tie.Need-give-requires
 give-requires c κs = search rules
 
-same_length : tie.Need-same-length
-same_length c = search rules
+shape_of-out : tie.Need-shape_of-out
+shape_of-out c = search rules
 
 returns : tie.Need-returns
-returns c = let says = c.before.before.before.before.before.before.before.before.plan.ensures in (c.give.ensures ∙ ap plan_figures says.0, says.1)
+returns c = let says = c.plan-answer.ensures in (c.give.ensures ∙ ap plan_figures says.0, says.1)
 
-pub repeater-tree-plan-spec : {M : Type 1} → statement M
-repeater-tree-plan-spec = tie.close (tie.spec plan-requires give-requires same_length returns)
+pub repeater_tree_plan_spec : {M : Type 1} → statement M
+repeater_tree_plan_spec = tie.close (tie.spec plan-answer-requires give-requires shape_of-out returns)

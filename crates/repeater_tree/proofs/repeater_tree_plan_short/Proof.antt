@@ -5,18 +5,18 @@ use borrow.Author.Rules.{rules}
 use Rattle.repeater_tree.proofs.repeater_tree_plan_short.Statement.{statement}
 use Rattle.repeater_tree.proofs.repeater_tree_plan_short.Tie as tie
 
-plan-short-requires : tie.Need-plan-short-requires
-plan-short-requires c κs = search rules
+plan_short-answer-requires : tie.Need-plan_short-answer-requires
+plan_short-answer-requires c κs = search rules
 
 give-requires : tie.Need-give-requires
 give-requires c κs = search rules
 
-same_length : tie.Need-same-length
-same_length c = search rules
+shape_of-out : tie.Need-shape_of-out
+shape_of-out c = search rules
 
 returns : tie.Need-returns
-returns c = let says = c.before.before.before.before.before.before.before.before.plan-short.ensures in (c.give.ensures ∙ ap plan_figures says.0, says.1)
+returns c = let says = c.plan_short-answer.ensures in (c.give.ensures ∙ ap plan_figures says.0, says.1)
 
-pub repeater-tree-plan-short-spec : {M : Type 1} → statement M
-repeater-tree-plan-short-spec =
-    tie.close (tie.spec plan-short-requires give-requires same_length returns)
+pub repeater_tree_plan_short_spec : {M : Type 1} → statement M
+repeater_tree_plan_short_spec =
+    tie.close (tie.spec plan_short-answer-requires give-requires shape_of-out returns)

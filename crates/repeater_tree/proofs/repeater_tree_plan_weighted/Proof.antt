@@ -5,18 +5,18 @@ use borrow.Author.Rules.{rules}
 use Rattle.repeater_tree.proofs.repeater_tree_plan_weighted.Statement.{statement}
 use Rattle.repeater_tree.proofs.repeater_tree_plan_weighted.Tie as tie
 
-plan-weighted-requires : tie.Need-plan-weighted-requires
-plan-weighted-requires c κs = search rules
+plan_weighted-answer-requires : tie.Need-plan_weighted-answer-requires
+plan_weighted-answer-requires c κs = search rules
 
 give-requires : tie.Need-give-requires
 give-requires c κs = search rules
 
-same_length : tie.Need-same-length
-same_length c = search rules
+shape_of-out : tie.Need-shape_of-out
+shape_of-out c = search rules
 
 returns : tie.Need-returns
-returns c = let says = c.before.before.before.before.before.before.before.before.plan-weighted.ensures in (c.give.ensures ∙ ap plan_figures says.0, says.1)
+returns c = let says = c.plan_weighted-answer.ensures in (c.give.ensures ∙ ap plan_figures says.0, says.1)
 
-pub repeater-tree-plan-weighted-spec : {M : Type 1} → statement M
-repeater-tree-plan-weighted-spec =
-    tie.close (tie.spec plan-weighted-requires give-requires same_length returns)
+pub repeater_tree_plan_weighted_spec : {M : Type 1} → statement M
+repeater_tree_plan_weighted_spec =
+    tie.close (tie.spec plan_weighted-answer-requires give-requires shape_of-out returns)

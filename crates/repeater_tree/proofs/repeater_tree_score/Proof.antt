@@ -11,32 +11,32 @@ use Rattle.repeater_tree.proofs.repeater_tree_score.Tie as tie
 score-requires : tie.Need-score-requires
 score-requires c κs = search rules
 
-enum-known-given : tie.Need-enum-known-given
-enum-known-given c = search rules
+enum_known-given : tie.Need-enum_known-given
+enum_known-given c = search rules
 
-enum-known-refusal : tie.Need-enum-known-refusal
-enum-known-refusal c = search rules
+enum_known-refusal : tie.Need-enum_known-refusal
+enum_known-refusal c = search rules
 
-tell-requires : tie.Need-tell-requires
-tell-requires c κs = search rules
+tell-told-requires : tie.Need-tell-told-requires
+tell-told-requires c κs = search rules
 
 -- the answer, of the numbers as they were handed over
-answered : (c : tie.After-score) → let s = c.before.before.before in c.score.result ≡ score_answer (score_of s.args.net.now s.args.listing.now s.args.alpha-1024ths s.args.beta-1024ths s.args.cap)
+answered : (c : tie.After-score) → let s = c in c.score.result ≡ score_answer (score_of s.args.net.now s.args.listing.now s.args.alpha_1024ths s.args.beta_1024ths s.args.cap)
 answered c =
-    let s = c.before.before.before in
-    c.score.ensures ∙ (λ i. score_answer (score_of s.args.net.now s.args.listing.now (to_z-of_z s.ranges.alpha-1024ths i) (to_z-of_z s.ranges.beta-1024ths i) (to_z-of_z s.ranges.cap i)))
+    let s = c in
+    c.score.ensures ∙ (λ i. score_answer (score_of s.args.net.now s.args.listing.now (to_z-of_z s.ranges.alpha_1024ths i) (to_z-of_z s.ranges.beta_1024ths i) (to_z-of_z s.ranges.cap i)))
 
-returns : tie.Need-returns
-returns c = ap score_figures (sym c.before.given.given.1 ∙ answered c.before.before.before)
+returns-in-Scored : tie.Need-returns-in-Scored
+returns-in-Scored c = ap score_figures (sym c.given-1.given.1 ∙ answered c.before.before.before)
 
-returns-2 : tie.Need-returns-2
+returns-in-ScoreRefused : tie.Need-returns-in-ScoreRefused
 unfolding of_bits
-returns-2 c =
-    let t = c.tell.ensures in
+returns-in-ScoreRefused c =
+    let t = c.tell-told.ensures in
     (λ i. record { number = (t i).number; text = (t i).text; line = (t i).line; score = plus_zero })
-    ∙ ap score_figures (sym c.before.before.refusal.given.1 ∙ answered c.before.before.before.before)
+    ∙ ap score_figures (sym c.refusal-1.given.1 ∙ answered c.before.before.before.before)
 
-pub repeater-tree-score-spec : {M : Type 1} → statement M
-repeater-tree-score-spec =
+pub repeater_tree_score_spec : {M : Type 1} → statement M
+repeater_tree_score_spec =
     tie.close
-    (tie.spec score-requires enum-known-given enum-known-refusal tell-requires returns returns-2)
+    (tie.spec score-requires enum_known-given enum_known-refusal tell-told-requires returns-in-Scored returns-in-ScoreRefused)

@@ -12,99 +12,99 @@ use Rattle.first_plan.proofs.plan.plan_rest.Statement.{statement}
 use Rattle.first_plan.proofs.plan.plan_rest.Tie as tie
 
 -- the arrays hold the net that was read
-read : (c : tie.After-enum-told) → (let a = c.before.before.before.before.before.before.before.before.before.before.before.before.before.before.before.before.before.args in let l = c.before.before.before.before.before.before.read-rest.new in read_net a.net.now ≡ value (net_of a.header a.n l.1.1.1.1.0 l.1.1.1.1.1.0 l.1.1.1.1.1.1.0))
-read c = let s = c.before.before.before.before.before.before.before.before.before.before.before.before.before.before.before.before.before in net_of_lem _ _ (s.requires.0.0 ∙ (rw c.enum_told.given.1 at (c.before.before.before.before.before.before.read-rest.ensures s.args.header)))
+read : (c : tie.In_default) → (let a = c.args in let l = c.read_rest.new in read_net a.net.now ≡ value (net_of a.header a.n l.1.1.1.1.0 l.1.1.1.1.1.0 l.1.1.1.1.1.1.0))
+read c = let s = c in net_of_lem _ _ (s.requires.0.0 ∙ (rw c.enum_told-1.given.1 at (c.read_rest.ensures s.args.header)))
 
-read-rest-requires : tie.Need-read-rest-requires
-read-rest-requires c κs = search rules
+read_rest-requires : tie.Need-read_rest-requires
+read_rest-requires c κs = search rules
 
-enum-known-refusal : tie.Need-enum-known-refusal
-enum-known-refusal c = search rules
+enum_known-refusal : tie.Need-enum_known-refusal
+enum_known-refusal c = search rules
 
-same_length : tie.Need-same-length
-same_length c = search rules
+shape_of-xs-in-NetRefused : tie.Need-shape_of-xs-in-NetRefused
+shape_of-xs-in-NetRefused c = search rules
 
-same-length-2 : tie.Need-same-length-2
-same-length-2 c = search rules
+shape_of-ys-in-NetRefused : tie.Need-shape_of-ys-in-NetRefused
+shape_of-ys-in-NetRefused c = search rules
 
-same-length-3 : tie.Need-same-length-3
-same-length-3 c = search rules
+shape_of-required-in-NetRefused : tie.Need-shape_of-required-in-NetRefused
+shape_of-required-in-NetRefused c = search rules
 
-same-length-4 : tie.Need-same-length-4
-same-length-4 c = search rules
+shape_of-own-in-NetRefused : tie.Need-shape_of-own-in-NetRefused
+shape_of-own-in-NetRefused c = search rules
 
-returns : tie.Need-returns
-returns c =
-    let s = c.before.before.before.before.before.before.before.before.before.before.before.before.before.before.before.before.before.before in
-    refused_answer _ _ _ (both_refuse _ _ (s.requires.0.0 ∙ (rw c.before.refusal.given.1 at (c.before.before.before.before.before.before.before.read-rest.ensures s.args.header))))
+returns-in-NetRefused : tie.Need-returns-in-NetRefused
+returns-in-NetRefused c =
+    let s = c in
+    refused_answer _ _ _ (both_refuse _ _ (s.requires.0.0 ∙ (rw c.refusal-1.given.1 at (c.read_rest.ensures s.args.header))))
 
-enum_told : tie.Need-enum-told
-enum_told c = search rules
+enum_told-1 : tie.Need-enum_told-1
+enum_told-1 c = search rules
 
-plan-net-requires : tie.Need-plan-net-requires
-plan-net-requires c κs =
-    let s = c.before.before.before.before.before.before.before.before.before.before.before.before.before.before.before.before.before.before.before.before.before.before.before.before.before.before.before in
+plan_net-requires : tie.Need-plan_net-requires
+plan_net-requires c κs =
+    let s = c in
     let a = s.args in
-    let r = c.before.before.before.before.before.before.before.before.before.before.before.before.before.before.before.before.read-rest in
-    let l = r.new.1.1.1.1 in
+    let r = c.read_rest in
+    let l = r.new.xs in
     let p = s.requires.1 in
-    let h = read_net_holds a.header a.n l.0 l.1.0 l.1.1.0 _ (read c.before.before.before.before.before.before.before.before.before.before) (omega (arith, r.auto, p.0)) (omega (arith, r.auto, p.0)) (omega (arith, r.auto, p.0)) in
+    let h = read_net_holds a.header a.n l.0 l.1.0 l.1.1.0 _ (read c.before.before.before.before.before.before.before.before.before) (omega (arith, r.auto, p.0)) (omega (arith, r.auto, p.0)) (omega (arith, r.auto, p.0)) in
     ((h, (p.1.0, omega (arith, r.auto, p.1), omega (arith, r.auto, p.1))), (omega (arith, r.auto, p.2), p.2.1, p.2.2, p.2.3, p.2.4))
 
-same-length-5 : tie.Need-same-length-5
-same-length-5 c = search rules
+shape_of-xs : tie.Need-shape_of-xs
+shape_of-xs c = search rules
 
-same-length-6 : tie.Need-same-length-6
-same-length-6 c = search rules
+shape_of-ys : tie.Need-shape_of-ys
+shape_of-ys c = search rules
 
-same-length-7 : tie.Need-same-length-7
-same-length-7 c = search rules
+shape_of-required : tie.Need-shape_of-required
+shape_of-required c = search rules
 
-same-length-8 : tie.Need-same-length-8
-same-length-8 c = search rules
+shape_of-parents : tie.Need-shape_of-parents
+shape_of-parents c = search rules
 
-same-length-9 : tie.Need-same-length-9
-same-length-9 c = search rules
+shape_of-own : tie.Need-shape_of-own
+shape_of-own c = search rules
 
-same-length-10 : tie.Need-same-length-10
-same-length-10 c = search rules
+shape_of-slacks : tie.Need-shape_of-slacks
+shape_of-slacks c = search rules
 
-same-length-11 : tie.Need-same-length-11
-same-length-11 c = search rules
+shape_of-room : tie.Need-shape_of-room
+shape_of-room c = search rules
 
-same-length-12 : tie.Need-same-length-12
-same-length-12 c = search rules
+shape_of-levels : tie.Need-shape_of-levels
+shape_of-levels c = search rules
 
-same-length-13 : tie.Need-same-length-13
-same-length-13 c = search rules
+shape_of-below : tie.Need-shape_of-below
+shape_of-below c = search rules
 
-same-length-14 : tie.Need-same-length-14
-same-length-14 c = search rules
+shape_of-out : tie.Need-shape_of-out
+shape_of-out c = search rules
 
-returns-2 : tie.Need-returns-2
-returns-2 c = read_answer _ _ _ _ _ (read c.before.before.before.before.before.before.before.before.before.before.before.before.before.before.before.before.before.before.before.before.before.before.before.before.before) c.before.before.before.before.before.before.before.before.before.before.before.before.before.before.plan-net.ensures
+returns : tie.Need-returns
+returns c = read_answer _ _ _ _ _ (read c.before.before.before.before.before.before.before.before.before.before.before.before.before.before.before.before.before.before.before.before.before.before.before.before) c.plan_net.ensures
 
-pub plan-rest-spec : {M : Type 1} → statement M
-plan-rest-spec =
+pub plan_rest_spec : {M : Type 1} → statement M
+plan_rest_spec =
     tie.close
     (tie.spec
-    read-rest-requires
-    enum-known-refusal
-    same_length
-    same-length-2
-    same-length-3
-    same-length-4
-    returns
-    enum_told
-    plan-net-requires
-    same-length-5
-    same-length-6
-    same-length-7
-    same-length-8
-    same-length-9
-    same-length-10
-    same-length-11
-    same-length-12
-    same-length-13
-    same-length-14
-    returns-2)
+    read_rest-requires
+    enum_known-refusal
+    shape_of-xs-in-NetRefused
+    shape_of-ys-in-NetRefused
+    shape_of-required-in-NetRefused
+    shape_of-own-in-NetRefused
+    returns-in-NetRefused
+    enum_told-1
+    plan_net-requires
+    shape_of-xs
+    shape_of-ys
+    shape_of-required
+    shape_of-parents
+    shape_of-own
+    shape_of-slacks
+    shape_of-room
+    shape_of-levels
+    shape_of-below
+    shape_of-out
+    returns)

@@ -13,53 +13,53 @@ use Rattle.first_tree.proofs.Laws.Choosing.{roomiest_best, all_sinks}
 use Rattle.first_tree.proofs.choose.best_sink.Statement.{statement}
 use Rattle.first_tree.proofs.choose.best_sink.Tie as tie
 
-roomiest-requires : tie.Need-roomiest-requires
-roomiest-requires c κs =
-    let p = c.before.requires in
+roomiest-most-requires : tie.Need-roomiest-most-requires
+roomiest-most-requires c κs =
+    let p = c.requires in
     ((p.0.2, p.0.3), λ i l. let q = p.1 i l in (q.1, q.2, p.0.4))
 
-mul-u : tie.Need-overflow-mul-u
-mul-u c = search rules
+offset_bounds-sinks-at : tie.Need-offset_bounds-sinks-at
+offset_bounds-sinks-at c = search rules
 
-shared-slice-read-u : tie.Need-shared-slice-read-u
-shared-slice-read-u c = omega (arith, c.before.before.roomiest.ensures.inside, c.before.before.before.before.requires.0.3)
+bounds-sinks-at : tie.Need-bounds-sinks-at
+bounds-sinks-at c = omega (arith, c.roomiest-most.ensures.inside, c.requires.0.3)
 
-far-apart-requires : tie.Need-far-apart-requires
-far-apart-requires c κs =
-    let p = c.before.before.before.before.requires in
-    let r = c.before.before.roomiest in
+far_apart-requires : tie.Need-far_apart-requires
+far_apart-requires c κs =
+    let p = c.requires in
+    let r = c.roomiest-most in
     let q = p.1 r.result.place r.ensures.inside in
     let w = p.0.0 in
     ((omega (arith, w.0, q.0), omega (arith, w.1, q.0), omega (arith, w.0), omega (arith, w.1)), (w.2 _ q.0, w.2 _ p.0.1))
 
-or-nearer-sinks-requires : tie.Need-or-nearer-sinks-requires
-or-nearer-sinks-requires c κs =
-    let a = c.before.before.before.before.before.args in
-    let p = c.before.before.before.before.before.requires in
-    let r = c.before.before.before.roomiest in
+or_nearer_sinks-requires : tie.Need-or_nearer_sinks-requires
+or_nearer_sinks-requires c κs =
+    let a = c.args in
+    let p = c.requires in
+    let r = c.roomiest-most in
     let R = r.ensures in
     let below : r.result.score.0 ≤ℤ get_or a.slacks.now 0 (pos 0) = subst (λ (z : ℤ). z ≤ℤ get_or a.slacks.now 0 (pos 0)) (sym R.is) (min_le_left _ _) in
     ((p.0.0, p.0.1, omega (arith, R.inside), p.0.4), ((λ i l. p.1 i (omega (arith, R.inside))), (λ i l. R.largest i (omega arith) (omega (arith, R.inside)), below)))
 
 returns : tie.Need-returns
 returns c =
-    let a = c.before.before.before.before.before.before.args in
-    let r = c.before.before.before.before.roomiest in
+    let a = c.args in
+    let r = c.roomiest-most in
     let f = score_of a.branch.0 a.slacks.now in
     let d = far_at a.n a.xs.now a.ys.now a.s in
     let u = get_or a.sinks.now r.result.place 0 in
-    let q = c.before.before.before.before.before.before.requires.1 r.result.place r.ensures.inside in
-    let far = c.before.far_apart.ensures ∙ far_sink a.n a.xs.now a.ys.now a.s u q.0 in
+    let q = c.requires.1 r.result.place r.ensures.inside in
+    let far = c.far_apart.ensures ∙ far_sink a.n a.xs.now a.ys.now a.s u q.0 in
     let found = roomiest_best f d a.sinks.now a.m r.result _ r.ensures (edge_is f d _ u refl r.ensures.is far) in
-    all_sinks f d a.sinks.now a.m c.or-nearer-sinks.result (c.or-nearer-sinks.ensures a.m (omega (arith, r.ensures.inside)) found)
+    all_sinks f d a.sinks.now a.m c.or_nearer_sinks.result (c.or_nearer_sinks.ensures a.m (omega (arith, r.ensures.inside)) found)
 
-pub best-sink-spec : {M : Type 1} → statement M
-best-sink-spec =
+pub best_sink_spec : {M : Type 1} → statement M
+best_sink_spec =
     tie.close
     (tie.spec
-    roomiest-requires
-    mul-u
-    shared-slice-read-u
-    far-apart-requires
-    or-nearer-sinks-requires
+    roomiest-most-requires
+    offset_bounds-sinks-at
+    bounds-sinks-at
+    far_apart-requires
+    or_nearer_sinks-requires
     returns)

@@ -16,13 +16,13 @@ point-requires-2 c κs = search rules
 
 distance-requires : tie.Need-distance-requires
 distance-requires c κs =
-    let p = c.before.before.requires in
-    let from = subst (PointWithin coordinate_reach) (sym c.before.point.ensures) (point_reach _ p.1.0) in
-    let to = subst (PointWithin coordinate_reach) (sym c.point2.ensures) (point_reach _ p.1.1) in
+    let p = c.requires in
+    let from = subst (PointWithin coordinate_reach) (sym c.point.ensures) (point_reach _ p.1.0) in
+    let to = subst (PointWithin coordinate_reach) (sym c.point-2.ensures) (point_reach _ p.1.1) in
     (from, to)
 
 returns : tie.Need-returns
-returns c = c.distance.ensures ∙ ap₂ distance c.before.before.point.ensures c.before.point2.ensures
+returns c = c.distance.ensures ∙ ap₂ distance c.point.ensures c.point-2.ensures
 
-pub far-apart-spec : {M : Type 1} → statement M
-far-apart-spec = tie.close (tie.spec point-requires point-requires-2 distance-requires returns)
+pub far_apart_spec : {M : Type 1} → statement M
+far_apart_spec = tie.close (tie.spec point-requires point-requires-2 distance-requires returns)

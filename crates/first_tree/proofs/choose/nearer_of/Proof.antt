@@ -8,43 +8,43 @@ use borrow.Author.Rules.{rules}
 use Rattle.first_tree.proofs.choose.nearer_of.Statement.{statement}
 use Rattle.first_tree.proofs.choose.nearer_of.Tie as tie
 
-is-less-requires : tie.Need-is-less-requires
-is-less-requires c κs = search rules
+is_less-requires : tie.Need-is_less-requires
+is_less-requires c κs = search rules
 
-returns : tie.Need-returns
-returns c =
-    let i = c.before.before.before.before in
-    sym (farther_behind i.args.a i.args.b i.requires (sym c.before.is-less.ensures ∙ c.if1.true))
+returns-then-is_less : tie.Need-returns-then-is_less
+returns-then-is_less c =
+    let i = c in
+    sym (farther_behind i.args.a i.args.b i.requires (sym c.is_less.ensures ∙ c.if-is_less.true))
 
-is-less-requires-2 : tie.Need-is-less-requires-2
-is-less-requires-2 c κs = search rules
+is_less-requires-2 : tie.Need-is_less-requires-2
+is_less-requires-2 c κs = search rules
 
-returns-2 : tie.Need-returns-2
-returns-2 c =
-    let j = c.before.before in
-    let i = j.before.before.before.before in
-    let more = sym j.before.is-less.ensures ∙ j.if1.false in
-    let less = sym c.before.is-less2.ensures ∙ c.if2.true in
+returns-then-is_less-2 : tie.Need-returns-then-is_less-2
+returns-then-is_less-2 c =
+    let j = c in
+    let i = j in
+    let more = sym j.is_less.ensures ∙ j.if-is_less.false in
+    let less = sym c.is_less-2.ensures ∙ c.if-is_less-2.true in
     sym (tied_first i.args.a i.args.b i.requires true false (ltb i.args.a.end i.args.b.end) less more refl)
 
-returns-3 : tie.Need-returns-3
-returns-3 c =
-    let k = c.before.before.before in
-    let j = k.before.before in
-    let i = j.before.before.before.before in
-    let more = sym j.before.is-less.ensures ∙ j.if1.false in
-    let less = sym k.before.is-less2.ensures ∙ k.if2.false in
-    sym (tied_first i.args.a i.args.b i.requires false false true less more (lt-ltb i.args.a.end i.args.b.end c.if3.true))
+returns-then-a-b : tie.Need-returns-then-a-b
+returns-then-a-b c =
+    let k = c in
+    let j = k in
+    let i = j in
+    let more = sym j.is_less.ensures ∙ j.if-is_less.false in
+    let less = sym k.is_less-2.ensures ∙ k.if-is_less-2.false in
+    sym (tied_first i.args.a i.args.b i.requires false false true less more (lt-ltb i.args.a.end i.args.b.end c.if-a-b.true))
 
-returns-4 : tie.Need-returns-4
-returns-4 c =
-    let k = c.before.before.before in
-    let j = k.before.before in
-    let i = j.before.before.before.before in
-    let more = sym j.before.is-less.ensures ∙ j.if1.false in
-    let less = sym k.before.is-less2.ensures ∙ k.if2.false in
-    sym (tied_first i.args.a i.args.b i.requires false false false less more (le-ltb i.args.a.end i.args.b.end c.if3.false))
+returns-else-a-b : tie.Need-returns-else-a-b
+returns-else-a-b c =
+    let k = c in
+    let j = k in
+    let i = j in
+    let more = sym j.is_less.ensures ∙ j.if-is_less.false in
+    let less = sym k.is_less-2.ensures ∙ k.if-is_less-2.false in
+    sym (tied_first i.args.a i.args.b i.requires false false false less more (le-ltb i.args.a.end i.args.b.end c.if-a-b.false))
 
-pub nearer-of-spec : {M : Type 1} → statement M
-nearer-of-spec =
-    tie.close (tie.spec is-less-requires returns is-less-requires-2 returns-2 returns-3 returns-4)
+pub nearer_of_spec : {M : Type 1} → statement M
+nearer_of_spec =
+    tie.close (tie.spec is_less-requires returns-then-is_less is_less-requires-2 returns-then-is_less-2 returns-then-a-b returns-else-a-b)

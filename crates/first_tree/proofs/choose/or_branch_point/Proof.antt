@@ -5,22 +5,22 @@ use borrow.Author.Rules.{rules}
 use Rattle.first_tree.proofs.choose.or_branch_point.Statement.{statement}
 use Rattle.first_tree.proofs.choose.or_branch_point.Tie as tie
 
-is-less-requires : tie.Need-is-less-requires
-is-less-requires c κs = search rules
+is_less-requires : tie.Need-is_less-requires
+is_less-requires c κs = search rules
 
-first-as-good-requires : tie.Need-first-as-good-requires
-first-as-good-requires c κs = search rules
+first_as_good-requires : tie.Need-first_as_good-requires
+first_as_good-requires c κs = search rules
+
+returns-then-is_less : tie.Need-returns-then-is_less
+returns-then-is_less c sinks d small e roomier B =
+    let a = c.args in
+    root_nearer a.branch.0 a.n a.k sinks a.slacks.now d a.best small e roomier B c.first_as_good.result (sym c.is_less.ensures ∙ c.if-is_less.true) c.first_as_good.ensures
 
 returns : tie.Need-returns
 returns c sinks d small e roomier B =
-    let a = c.before.before.before.before.args in
-    root_nearer a.branch.0 a.n a.k sinks a.slacks.now d a.best small e roomier B c.first-as-good.result (sym c.before.before.is-less.ensures ∙ c.before.if1.true) c.first-as-good.ensures
+    let a = c.args in
+    root_no_nearer a.branch.0 a.n a.k sinks a.slacks.now d a.best small e roomier B (sym c.is_less.ensures ∙ c.if-is_less.false)
 
-returns-2 : tie.Need-returns-2
-returns-2 c sinks d small e roomier B =
-    let a = c.before.before.before.args in
-    root_no_nearer a.branch.0 a.n a.k sinks a.slacks.now d a.best small e roomier B (sym c.before.is-less.ensures ∙ c.if1.false)
-
-pub or-branch-point-spec : {M : Type 1} → statement M
-or-branch-point-spec =
-    tie.close (tie.spec is-less-requires first-as-good-requires returns returns-2)
+pub or_branch_point_spec : {M : Type 1} → statement M
+or_branch_point_spec =
+    tie.close (tie.spec is_less-requires first_as_good-requires returns-then-is_less returns)

@@ -13,71 +13,71 @@ use Rattle.first_tree.proofs.Laws.Choosing.{next_sink_lem}
 use Rattle.first_tree.proofs.choose.or_nearer_sinks.Statement.{statement}
 use Rattle.first_tree.proofs.choose.or_nearer_sinks.Tie as tie
 
-abbrev invariant-loop : tie.invariant-loop
-invariant-loop n left xs ys sinks slacks branch s best₀ i₀ best i =
+abbrev invariant-loop-i : tie.invariant-loop-i
+invariant-loop-i n left xs ys sinks slacks branch s best₀ i₀ best i =
     (i ≤ left) × (best.score.0 ≡ best₀.score.0)
     × ((m : ℕ) → left ≤ m → BestEdge (SinkFrom sinks left m) (score_of branch.0 slacks) (far_at n xs ys s) best₀
     → BestEdge (SinkFrom sinks i m) (score_of branch.0 slacks) (far_at n xs ys s) best)
 
-abbrev decreases-loop : tie.decreases-loop
-decreases-loop n left xs ys sinks slacks branch s best₀ i₀ best i = i
+abbrev decreases-loop-i : tie.decreases-loop-i
+decreases-loop-i n left xs ys sinks slacks branch s best₀ i₀ best i = i
 
-loop-holds : tie.Need-loop-init invariant-loop decreases-loop
-loop-holds c = (omega arith, refl, λ m l B. B)
+loop-i-init : tie.Need-loop-i-init invariant-loop-i decreases-loop-i
+loop-i-init c = (omega arith, refl, λ m l B. B)
 
-sub-i : tie.Need-overflow-sub-i invariant-loop decreases-loop
-sub-i c = search rules
+overflow_sub-i : tie.Need-overflow_sub-i invariant-loop-i decreases-loop-i
+overflow_sub-i c = search rules
 
-mul-or-nearer-sink : tie.Need-overflow-mul-or-nearer-sink invariant-loop decreases-loop
-mul-or-nearer-sink c = search rules
+offset_bounds-sinks-i : tie.Need-offset_bounds-sinks-i invariant-loop-i decreases-loop-i
+offset_bounds-sinks-i c = search rules
 
-shared-slice-read-or-nearer-sink : tie.Need-shared-slice-read-or-nearer-sink invariant-loop decreases-loop
-shared-slice-read-or-nearer-sink c = search rules
+bounds-sinks-i : tie.Need-bounds-sinks-i invariant-loop-i decreases-loop-i
+bounds-sinks-i c = search rules
 
-or-nearer-sink-requires : tie.Need-or-nearer-sink-requires invariant-loop decreases-loop
-or-nearer-sink-requires c κs =
-    let p = c.before.before.before.before.requires in
-    let l = c.before.before.loop in
+or_nearer_sink-best-requires : tie.Need-or_nearer_sink-best-requires invariant-loop-i decreases-loop-i
+or_nearer_sink-best-requires c κs =
+    let p = c.requires in
+    let l = c.loop-i in
     let no_more = p.1.1.0 (l.i - 1) (omega arith) in
     let below = p.1.1.1 in
     ((p.0.0, p.0.1, p.1.0 (l.i - 1) (omega arith), p.0.3), (omega (arith, whole, l.invariant.1), omega (arith, whole, l.invariant.1)))
 
-loop-less : tie.Need-loop-smaller invariant-loop decreases-loop
-loop-less c = search rules
+loop-i-smaller : tie.Need-loop-i-smaller invariant-loop-i decreases-loop-i
+loop-i-smaller c = search rules
 
-loop-again : tie.Need-loop-preserved invariant-loop decreases-loop
-loop-again c =
-    let a = c.before.before.before.before.before.args in
-    let l = c.before.before.before.loop in
+loop-i-preserved : tie.Need-loop-i-preserved invariant-loop-i decreases-loop-i
+loop-i-preserved c =
+    let a = c.args in
+    let l = c.loop-i in
     let f = score_of a.branch.0 a.slacks.now in
     let d = far_at a.n a.xs.now a.ys.now a.s in
-    let r = c.or-nearer-sink in
+    let r = c.or_nearer_sink-best in
     let i : ℕ = l.i - 1 in
-    let no_more = c.before.before.before.before.before.requires.1.1.0 i (omega arith) in
+    let no_more = c.requires.1.1.0 i (omega arith) in
     let e : l.i ≡ suc i = omega arith in (
       omega arith,
       ap (λ (x : Edge). x.score.0) r.ensures ∙ first_keeps (edge_to f d (get_or a.sinks.now i 0)) l.best (omega (arith, whole, l.invariant.1)) ∙ l.invariant.1,
       λ m h B. next_sink_lem f d a.sinks.now m i l.best r.result (omega arith) (subst (λ (h : ℕ). BestEdge (SinkFrom a.sinks.now h m) f d l.best) e (l.invariant.2 m h B)) r.ensures,
     )
 
-returns : tie.Need-returns invariant-loop decreases-loop
+returns : tie.Need-returns invariant-loop-i decreases-loop-i
 returns c m h B =
-    let a = c.before.before.before.args in
-    let l = c.before.loop in
+    let a = c.args in
+    let l = c.loop-i in
     let e : l.i ≡ 0 = omega arith in
     subst (λ (h : ℕ). BestEdge (SinkFrom a.sinks.now h m) (score_of a.branch.0 a.slacks.now) (far_at a.n a.xs.now a.ys.now a.s) l.best) e (l.invariant.2 m h B)
 
-pub or-nearer-sinks-spec : {M : Type 1} → statement M
-or-nearer-sinks-spec =
+pub or_nearer_sinks_spec : {M : Type 1} → statement M
+or_nearer_sinks_spec =
     tie.close
     (tie.spec
-    invariant-loop
-    decreases-loop
-    loop-holds
-    sub-i
-    mul-or-nearer-sink
-    shared-slice-read-or-nearer-sink
-    or-nearer-sink-requires
-    loop-less
-    loop-again
+    invariant-loop-i
+    decreases-loop-i
+    loop-i-init
+    overflow_sub-i
+    offset_bounds-sinks-i
+    bounds-sinks-i
+    or_nearer_sink-best-requires
+    loop-i-smaller
+    loop-i-preserved
     returns)

@@ -12,25 +12,25 @@ use borrow.Author.Rules.{rules}
 use Rattle.first_tree.proofs.choose.score_of.Statement.{statement}
 use Rattle.first_tree.proofs.choose.score_of.Tie as tie
 
-shared-slice-copy-out-of : tie.Need-shared-slice-copy-out-of
-shared-slice-copy-out-of c = search rules
+bounds-slacks-0 : tie.Need-bounds-slacks-0
+bounds-slacks-0 c = search rules
 
-of-requires : tie.Need-of-requires
-of-requires c κs = search rules
+of-worst-requires : tie.Need-of-worst-requires
+of-worst-requires c κs = search rules
 
-mul-of : tie.Need-overflow-mul-of
-mul-of c = search rules
+offset_bounds-slacks-v : tie.Need-offset_bounds-slacks-v
+offset_bounds-slacks-v c = search rules
 
-shared-slice-copy-out-of-2 : tie.Need-shared-slice-copy-out-of-2
-shared-slice-copy-out-of-2 c = search rules
+bounds-slacks-v : tie.Need-bounds-slacks-v
+bounds-slacks-v c = search rules
 
-of-requires-2 : tie.Need-of-requires-2
-of-requires-2 c κs = search rules
+of-under-requires : tie.Need-of-under-requires
+of-under-requires c κs = search rules
 
-minus-requires : tie.Need-minus-requires
-minus-requires c κs =
-    let s = c.before.before.before.before in
-    let own = c.of2.ensures ∙ to_z-of_z (fit (get_or s.args.slacks.now s.args.v (pos 0)) c.before.of-arg2.given) in
+minus-room-requires : tie.Need-minus-room-requires
+minus-room-requires c κs =
+    let s = c in
+    let own = c.of-under.ensures ∙ to_z-of_z (fit (get_or s.args.slacks.now s.args.v (pos 0)) c.of-arg-2-1.given) in
     let p = s.requires in
     omega (arith, whole, own)
 
@@ -39,23 +39,23 @@ least-requires c κs = search rules
 
 returns : tie.Need-returns
 returns c =
-    let b = c.before.before in
-    let w = b.before.before in
-    let a = w.before.before.args in
-    let worst = w.of.ensures ∙ to_z-of_z (fit (get_or a.slacks.now 0 (pos 0)) w.before.of-arg.given) in
-    let own = b.of2.ensures ∙ to_z-of_z (fit (get_or a.slacks.now a.v (pos 0)) b.before.of-arg2.given) in
-    let number : c.least.result.0 ≡ score_of a.branch.0 a.slacks.now a.v = c.least.ensures ∙ ap₂ min_ℤ worst (c.before.minus.ensures ∙ ap (λ (z : ℤ). z -ℤ a.branch.0) own) in
+    let b = c in
+    let w = b in
+    let a = w.args in
+    let worst = w.of-worst.ensures ∙ to_z-of_z (fit (get_or a.slacks.now 0 (pos 0)) w.of-arg-1.given) in
+    let own = b.of-under.ensures ∙ to_z-of_z (fit (get_or a.slacks.now a.v (pos 0)) b.of-arg-2-1.given) in
+    let number : c.least.result.0 ≡ score_of a.branch.0 a.slacks.now a.v = c.least.ensures ∙ ap₂ min_ℤ worst (c.minus-room.ensures ∙ ap (λ (z : ℤ). z -ℤ a.branch.0) own) in
     (number, λ N j c1 e l G h. number ∙ ap (λ (z : ℤ). score_of z a.slacks.now a.v) e ∙ (smallest_slack N c1).tried j l a.slacks.now G a.v h)
 
-pub score-of-spec : {M : Type 1} → statement M
-score-of-spec =
+pub score_of_spec : {M : Type 1} → statement M
+score_of_spec =
     tie.close
     (tie.spec
-    shared-slice-copy-out-of
-    of-requires
-    mul-of
-    shared-slice-copy-out-of-2
-    of-requires-2
-    minus-requires
+    bounds-slacks-0
+    of-worst-requires
+    offset_bounds-slacks-v
+    bounds-slacks-v
+    of-under-requires
+    minus-room-requires
     least-requires
     returns)

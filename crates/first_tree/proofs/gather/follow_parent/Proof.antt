@@ -13,78 +13,78 @@ use borrow.Author.Rules.{rules}
 use Rattle.first_tree.proofs.gather.follow_parent.Statement.{statement}
 use Rattle.first_tree.proofs.gather.follow_parent.Tie as tie
 
-mul-level : tie.Need-overflow-mul-level
-mul-level c = search rules
+offset_bounds-parents-u : tie.Need-offset_bounds-parents-u
+offset_bounds-parents-u c = search rules
 
-shared-slice-read-level : tie.Need-shared-slice-read-level
-shared-slice-read-level c = search rules
+bounds-parents-u : tie.Need-bounds-parents-u
+bounds-parents-u c = search rules
 
-mul-level-2 : tie.Need-overflow-mul-level-2
-mul-level-2 c = search rules
+offset_bounds-levels-parents : tie.Need-offset_bounds-levels-parents
+offset_bounds-levels-parents c = search rules
 
-slice-read-level : tie.Need-slice-read-level
-slice-read-level c = search rules
+bounds-levels-parents : tie.Need-bounds-levels-parents
+bounds-levels-parents c = search rules
 
-add-level : tie.Need-overflow-add-level
-add-level c = search rules
+overflow_add-level : tie.Need-overflow_add-level
+overflow_add-level c = search rules
 
-mul-if1 : tie.Need-overflow-mul-if1
-mul-if1 c = search rules
+offset_bounds-levels-u : tie.Need-offset_bounds-levels-u
+offset_bounds-levels-u c = search rules
 
-slice-read-if1 : tie.Need-slice-read-if1
-slice-read-if1 c = search rules
+bounds-levels-u : tie.Need-bounds-levels-u
+bounds-levels-u c = search rules
 
-mul-of : tie.Need-overflow-mul-of
-mul-of c = search rules
+offset_bounds-slacks-u : tie.Need-offset_bounds-slacks-u
+offset_bounds-slacks-u c = search rules
 
-slice-copy-out-of : tie.Need-slice-copy-out-of
-slice-copy-out-of c = search rules
+slice_copy_out-of : tie.Need-slice_copy_out-of
+slice_copy_out-of c = search rules
 
 of-requires : tie.Need-of-requires
 of-requires c κs = search rules
 
 -- the number as it was read
-slack_read : (c : tie.After-of) → c.of.result.0 ≡ get_or c.before.before.before.before.before.before.before.before.args.slacks.now c.before.before.before.before.before.before.before.before.args.u (pos 0)
-slack_read c = let a = c.before.before.before.before.before.before.before.before.args in c.of.ensures ∙ to_z-of_z (fit (get_or a.slacks.now a.u (pos 0)) c.before.of-arg.given)
+slack_read : (c : tie.After-of) → c.of.result.0 ≡ get_or c.args.slacks.now c.args.u (pos 0)
+slack_read c = let a = c.args in c.of.ensures ∙ to_z-of_z (fit (get_or a.slacks.now a.u (pos 0)) c.of-arg-1.given)
 
-minus-requires : tie.Need-minus-requires
-minus-requires c κs = let p = c.before.before.before.before.before.before.before.before.requires in omega (arith, whole, slack_read c)
+minus-least-requires : tie.Need-minus-least-requires
+minus-least-requires c κs = let p = c.requires in omega (arith, whole, slack_read c)
 
-mul-levels : tie.Need-overflow-mul-levels
-mul-levels c = search rules
+offset_bounds-levels-u-then-levels-u : tie.Need-offset_bounds-levels-u-then-levels-u
+offset_bounds-levels-u-then-levels-u c = search rules
 
-slice-write-levels : tie.Need-slice-write-levels
-slice-write-levels c = search rules
+bounds-levels-u-then-levels-u : tie.Need-bounds-levels-u-then-levels-u
+bounds-levels-u-then-levels-u c = search rules
 
 attoseconds-requires : tie.Need-attoseconds-requires
 attoseconds-requires c κs = search rules
 
-mul-t17 : tie.Need-overflow-mul-t17
-mul-t17 c = search rules
+offset_bounds-slacks-u-then-levels-u : tie.Need-offset_bounds-slacks-u-then-levels-u
+offset_bounds-slacks-u-then-levels-u c = search rules
 
-slice-set-from-slacks : tie.Need-slice-set-from-slacks
-slice-set-from-slacks c = search rules
+bounds-slacks-u : tie.Need-bounds-slacks-u
+bounds-slacks-u c = search rules
 
-same_length : tie.Need-same-length
-same_length c = search rules
+shape_of-levels : tie.Need-shape_of-levels
+shape_of-levels c = search rules
 
-same-length-2 : tie.Need-same-length-2
-same-length-2 c = search rules
+shape_of-slacks : tie.Need-shape_of-slacks
+shape_of-slacks c = search rules
 
-returns : tie.Need-returns
-returns c =
-    let a = c.before.before.before.before.before.before.before.before.before.before.args in
+returns-then-levels-u : tie.Need-returns-then-levels-u
+returns-then-levels-u c =
+    let a = c.args in
     let deeper = get_or a.levels.now (get_or a.parents.now a.u 0) 0 + 1 in
     let lower = get_or a.slacks.now a.u (pos 0) -ℤ a.branch.0 in
     let is : is_behind a.parents.now a.levels.now a.u ≡ true = lt-ltb (get_or a.levels.now a.u 0) deeper (omega arith) in
-    let e = to_z-of_z (fit c.attoseconds.result c.attoseconds.type-inv) ∙ c.attoseconds.ensures ∙ c.before.minus.ensures ∙ ap (λ (z : ℤ). z -ℤ a.branch.0) (slack_read c.before.before) in (
+    let e = to_z-of_z (fit c.attoseconds.result c.attoseconds.type_inv) ∙ c.attoseconds.ensures ∙ c.minus-least.ensures ∙ ap (λ (z : ℤ). z -ℤ a.branch.0) (slack_read c.before.before) in (
       sym (ap (λ (b : Bool). cond b (set a.levels.now a.u deeper) a.levels.now) is),
       (λ i. set a.slacks.now a.u (e i)) ∙ sym (ap (λ (b : Bool). cond b (set a.slacks.now a.u lower) a.slacks.now) is),
     )
 
-returns-2 : tie.Need-returns-2
-returns-2 c =
-    let a = c.before.before.before.before.before.before.args in
+returns-else-levels-u : tie.Need-returns-else-levels-u
+returns-else-levels-u c =
+    let a = c.args in
     let deeper = get_or a.levels.now (get_or a.parents.now a.u 0) 0 + 1 in
     let lower = get_or a.slacks.now a.u (pos 0) -ℤ a.branch.0 in
     let no : is_behind a.parents.now a.levels.now a.u ≡ false = le-ltb (get_or a.levels.now a.u 0) deeper (omega arith) in (
@@ -92,27 +92,27 @@ returns-2 c =
       sym (ap (λ (b : Bool). cond b (set a.slacks.now a.u lower) a.slacks.now) no),
     )
 
-pub follow-parent-spec : {M : Type 1} → statement M
-follow-parent-spec =
+pub follow_parent_spec : {M : Type 1} → statement M
+follow_parent_spec =
     tie.close
     (tie.spec
-    mul-level
-    shared-slice-read-level
-    mul-level-2
-    slice-read-level
-    add-level
-    mul-if1
-    slice-read-if1
-    mul-of
-    slice-copy-out-of
+    offset_bounds-parents-u
+    bounds-parents-u
+    offset_bounds-levels-parents
+    bounds-levels-parents
+    overflow_add-level
+    offset_bounds-levels-u
+    bounds-levels-u
+    offset_bounds-slacks-u
+    slice_copy_out-of
     of-requires
-    minus-requires
-    mul-levels
-    slice-write-levels
+    minus-least-requires
+    offset_bounds-levels-u-then-levels-u
+    bounds-levels-u-then-levels-u
     attoseconds-requires
-    mul-t17
-    slice-set-from-slacks
-    same_length
-    same-length-2
-    returns
-    returns-2)
+    offset_bounds-slacks-u-then-levels-u
+    bounds-slacks-u
+    shape_of-levels
+    shape_of-slacks
+    returns-then-levels-u
+    returns-else-levels-u)

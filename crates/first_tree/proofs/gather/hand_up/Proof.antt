@@ -18,121 +18,121 @@ use Rattle.tree.proofs.Laws.Gathering.HandingUp.{Raising, raising_all, raising_s
 use Rattle.first_tree.proofs.gather.hand_up.Statement.{statement}
 use Rattle.first_tree.proofs.gather.hand_up.Tie as tie
 
-abbrev invariant-loop : tie.invariant-loop
-invariant-loop parents slacks₀ v left least at₀ more₀ slacks at more =
+abbrev invariant-loop-more : tie.invariant-loop-more
+invariant-loop-more parents slacks₀ v left least at₀ more₀ slacks at more =
     (length slacks ≡ length slacks₀) × (length (way_up parents more at) ≡ more) × ((u : ℕ) → count u (way_up parents more at) ≤ count u (way_up parents left v))
     × (Falling (λ u. get_or slacks₀ u (pos 0)) (way_up parents left v) → ((u : ℕ) → count u (way_up parents left v) ≤ 1) → Raising (way_up parents left v) (way_up parents more at) least.0 slacks₀ slacks)
 
-abbrev decreases-loop : tie.decreases-loop
-decreases-loop parents slacks₀ v left least at₀ more₀ slacks at more = more
+abbrev decreases-loop-more : tie.decreases-loop-more
+decreases-loop-more parents slacks₀ v left least at₀ more₀ slacks at more = more
 
-loop-holds : tie.Need-loop-init invariant-loop decreases-loop
-loop-holds c = (refl, c.before.requires.1, (λ u. le_refl _), λ f o. raising_all _ f o)
+loop-more-init : tie.Need-loop-more-init invariant-loop-more decreases-loop-more
+loop-more-init c = (refl, c.requires.1, (λ u. le_refl _), λ f o. raising_all _ f o)
 
 -- the vertex that the walk has come to is on the way
-on_way : (c : tie.In-loop invariant-loop decreases-loop) → count c.before.loop.at (way_up c.before.before.before.args.parents.now c.before.before.before.args.left c.before.before.before.args.v) ≢ 0
+on_way : (c : tie.In-loop-more invariant-loop-more decreases-loop-more) → count c.loop-more.at (way_up c.args.parents.now c.args.left c.args.v) ≢ 0
 on_way c =
-    let a = c.before.before.before.args in
-    let l = c.before.loop in
+    let a = c.args in
+    let l = c.loop-more in
     omega (arith, way_first a.parents.now l.more l.at (omega arith) l.invariant.1, l.invariant.2 l.at)
 
 -- what it has there, and that it is more
-read : (c : tie.After-of invariant-loop decreases-loop) → c.of.result.0 ≡ get_or c.before.before.before.loop.slacks c.before.before.before.loop.at (pos 0)
-read c = let l = c.before.before.before.loop in c.of.ensures ∙ to_z-of_z (fit (get_or l.slacks l.at (pos 0)) c.before.of-arg.given)
+read : (c : tie.After-of invariant-loop-more decreases-loop-more) → c.of.result.0 ≡ get_or c.loop-more.slacks c.loop-more.at (pos 0)
+read c = let l = c.loop-more in c.of.ensures ∙ to_z-of_z (fit (get_or l.slacks l.at (pos 0)) c.of-arg-1.given)
 
-mul-of : tie.Need-overflow-mul-of invariant-loop decreases-loop
-mul-of c = let l = c.before.loop in omega (arith, c.before.before.before.requires.0 l.at (on_way c))
+offset_bounds-slacks-at : tie.Need-offset_bounds-slacks-at invariant-loop-more decreases-loop-more
+offset_bounds-slacks-at c = let l = c.loop-more in omega (arith, c.requires.0 l.at (on_way c))
 
-slice-copy-out-of : tie.Need-slice-copy-out-of invariant-loop decreases-loop
-slice-copy-out-of c = let l = c.before.loop in omega (arith, c.before.before.before.requires.0 l.at (on_way c), l.invariant.0)
+slice_copy_out-of : tie.Need-slice_copy_out-of invariant-loop-more decreases-loop-more
+slice_copy_out-of c = let l = c.loop-more in omega (arith, c.requires.0 l.at (on_way c), l.invariant.0)
 
-of-requires : tie.Need-of-requires invariant-loop decreases-loop
+of-requires : tie.Need-of-requires invariant-loop-more decreases-loop-more
 of-requires c κs = search rules
 
-is-less-requires : tie.Need-is-less-requires invariant-loop decreases-loop
-is-less-requires c κs = search rules
+is_less-requires : tie.Need-is_less-requires invariant-loop-more decreases-loop-more
+is_less-requires c κs = search rules
 
-mul-up : tie.Need-overflow-mul-up invariant-loop decreases-loop
-mul-up c = let l = c.before.before.before.before.before.loop in omega (arith, c.before.before.before.before.before.before.before.requires.0 l.at (on_way c.before.before.before.before))
+offset_bounds-parents-at : tie.Need-offset_bounds-parents-at invariant-loop-more decreases-loop-more
+offset_bounds-parents-at c = let l = c.loop-more in omega (arith, c.requires.0 l.at (on_way c.before.before.before.before))
 
-shared-slice-read-up : tie.Need-shared-slice-read-up invariant-loop decreases-loop
-shared-slice-read-up c = let l = c.before.before.before.before.before.before.loop in omega (arith, c.before.before.before.before.before.before.before.before.requires.0 l.at (on_way c.before.before.before.before.before))
+bounds-parents-at : tie.Need-bounds-parents-at invariant-loop-more decreases-loop-more
+bounds-parents-at c = let l = c.loop-more in omega (arith, c.requires.0 l.at (on_way c.before.before.before.before.before))
 
-attoseconds-requires : tie.Need-attoseconds-requires invariant-loop decreases-loop
+attoseconds-requires : tie.Need-attoseconds-requires invariant-loop-more decreases-loop-more
 attoseconds-requires c κs = search rules
 
-mul-t15 : tie.Need-overflow-mul-t15 invariant-loop decreases-loop
-mul-t15 c = let l = c.before.before.before.before.before.before.before.loop in omega (arith, c.before.before.before.before.before.before.before.before.before.requires.0 l.at (on_way c.before.before.before.before.before.before))
+offset_bounds-slacks-at-in-loop-more : tie.Need-offset_bounds-slacks-at-in-loop-more invariant-loop-more decreases-loop-more
+offset_bounds-slacks-at-in-loop-more c = let l = c.loop-more in omega (arith, c.requires.0 l.at (on_way c.before.before.before.before.before.before))
 
-slice-set-from-slacks : tie.Need-slice-set-from-slacks invariant-loop decreases-loop
-slice-set-from-slacks c = let l = c.before.before.before.before.before.before.before.loop in omega (arith, c.before.before.before.before.before.before.before.before.before.requires.0 l.at (on_way c.before.before.before.before.before.before), l.invariant.0)
+bounds-slacks-at : tie.Need-bounds-slacks-at invariant-loop-more decreases-loop-more
+bounds-slacks-at c = let l = c.loop-more in omega (arith, c.requires.0 l.at (on_way c.before.before.before.before.before.before), l.invariant.0)
 
-sub_more : tie.Need-overflow-sub-more invariant-loop decreases-loop
-sub_more c = omega arith
+overflow_sub-more : tie.Need-overflow_sub-more invariant-loop-more decreases-loop-more
+overflow_sub-more c = omega arith
 
-loop-less : tie.Need-loop-smaller invariant-loop decreases-loop
-loop-less c = omega arith
+loop-more-smaller : tie.Need-loop-more-smaller invariant-loop-more decreases-loop-more
+loop-more-smaller c = omega arith
 
-loop-again : tie.Need-loop-preserved invariant-loop decreases-loop
-loop-again c =
-    let a = c.before.before.before.before.before.before.before.before.before.args in
-    let l = c.before.before.before.before.before.before.before.loop in
+loop-more-preserved : tie.Need-loop-more-preserved invariant-loop-more decreases-loop-more
+loop-more-preserved c =
+    let a = c.args in
+    let l = c.loop-more in
     let v = c.attoseconds in
     let ps = a.parents.now in
     let next = way_next ps l.more l.at (omega arith) l.invariant.1 in
-    let test : lt_z a.least.0 c.before.before.before.before.of.result.0 ≡ true = sym c.before.before.before.is-less.ensures ∙ c.before.before.if1.true in
+    let test : lt_z a.least.0 c.of.result.0 ≡ true = sym c.is_less.ensures ∙ c.if-is_less.true in
     let less : a.least.0 <ℤ get_or l.slacks l.at (pos 0) = omega (arith, whole, test, read c.before.before.before.before) in
-    let stored : rd v.result ≡ a.least.0 = to_z-of_z (fit v.result v.type-inv) ∙ v.ensures in
+    let stored : rd v.result ≡ a.least.0 = to_z-of_z (fit v.result v.type_inv) ∙ v.ensures in
     let on = on_way c.before.before.before.before.before.before in (
       length-set l.slacks l.at (rd v.result) ∙ l.invariant.0,
       omega (arith, ap length next, l.invariant.1),
       (λ u. omega (arith, ap (count u) next, l.invariant.2 u)),
       λ f o. subst (λ (z : ℤ). Raising (way_up ps a.left a.v) (way_up ps (l.more - 1) (get_or ps l.at 0)) a.least.0 a.slacks.now (set l.slacks l.at z)) (sym stored)
-          (raising_step (subst (λ (r : List ℕ). Raising (way_up ps a.left a.v) r a.least.0 a.slacks.now l.slacks) next (l.invariant.3 f o)) (omega (arith, c.before.before.before.before.before.before.before.before.before.requires.0 l.at on, l.invariant.0)) on less),
+          (raising_step (subst (λ (r : List ℕ). Raising (way_up ps a.left a.v) r a.least.0 a.slacks.now l.slacks) next (l.invariant.3 f o)) (omega (arith, c.requires.0 l.at on, l.invariant.0)) on less),
     )
 
-same_length : tie.Need-same-length invariant-loop decreases-loop
-same_length c = c.before.before.before.before.before.loop.invariant.0
+shape_of-slacks-else-is_less : tie.Need-shape_of-slacks-else-is_less invariant-loop-more decreases-loop-more
+shape_of-slacks-else-is_less c = c.loop-more.invariant.0
 
-returns : tie.Need-returns invariant-loop decreases-loop
-returns c =
-    let a = c.before.before.before.before.before.before.before.args in
-    let l = c.before.before.before.before.before.loop in
+returns-else-is_less : tie.Need-returns-else-is_less invariant-loop-more decreases-loop-more
+returns-else-is_less c =
+    let a = c.args in
+    let l = c.loop-more in
     let ps = a.parents.now in
     let next = way_next ps l.more l.at (omega arith) l.invariant.1 in
-    let test : lt_z a.least.0 c.before.before.of.result.0 ≡ false = sym c.before.is-less.ensures ∙ c.if1.false in
+    let test : lt_z a.least.0 c.of.result.0 ≡ false = sym c.is_less.ensures ∙ c.if-is_less.false in
     λ f o. raising_stop (subst (λ (r : List ℕ). Raising (way_up ps a.left a.v) r a.least.0 a.slacks.now l.slacks) next (l.invariant.3 f o)) (omega (arith, whole, test, read c.before.before))
 
-same-length-2 : tie.Need-same-length-2 invariant-loop decreases-loop
-same-length-2 c = c.before.loop.invariant.0
+shape_of-slacks-after-loop-more : tie.Need-shape_of-slacks-after-loop-more invariant-loop-more decreases-loop-more
+shape_of-slacks-after-loop-more c = c.loop-more.invariant.0
 
-returns-2 : tie.Need-returns-2 invariant-loop decreases-loop
-returns-2 c =
-    let a = c.before.before.before.args in
-    let l = c.before.loop in
+returns-after-loop-more : tie.Need-returns-after-loop-more invariant-loop-more decreases-loop-more
+returns-after-loop-more c =
+    let a = c.args in
+    let l = c.loop-more in
     let ps = a.parents.now in
     λ f o. raising_end (subst (λ (r : List ℕ). Raising (way_up ps a.left a.v) r a.least.0 a.slacks.now l.slacks) (way_done ps l.more l.at (omega arith)) (l.invariant.3 f o))
 
-pub hand-up-spec : {M : Type 1} → statement M
-hand-up-spec =
+pub hand_up_spec : {M : Type 1} → statement M
+hand_up_spec =
     tie.close
     (tie.spec
-    invariant-loop
-    decreases-loop
-    loop-holds
-    mul-of
-    slice-copy-out-of
+    invariant-loop-more
+    decreases-loop-more
+    loop-more-init
+    offset_bounds-slacks-at
+    slice_copy_out-of
     of-requires
-    is-less-requires
-    mul-up
-    shared-slice-read-up
+    is_less-requires
+    offset_bounds-parents-at
+    bounds-parents-at
     attoseconds-requires
-    mul-t15
-    slice-set-from-slacks
-    sub_more
-    loop-less
-    loop-again
-    same_length
-    returns
-    same-length-2
-    returns-2)
+    offset_bounds-slacks-at-in-loop-more
+    bounds-slacks-at
+    overflow_sub-more
+    loop-more-smaller
+    loop-more-preserved
+    shape_of-slacks-else-is_less
+    returns-else-is_less
+    shape_of-slacks-after-loop-more
+    returns-after-loop-more)

@@ -8,90 +8,90 @@ use borrow.Author.Rules.{rules}
 use Rattle.first_tree.proofs.insert.insert_first.Statement.{statement}
 use Rattle.first_tree.proofs.insert.insert_first.Tie as tie
 
-mul-clear : tie.Need-overflow-mul-clear
-mul-clear c = search rules
+overflow_mul-n : tie.Need-overflow_mul-n
+overflow_mul-n c = search rules
 
 clear-requires : tie.Need-clear-requires
 clear-requires c κs = search rules
 
-slice-write-below : tie.Need-slice-write-below
-slice-write-below c = search rules
+bounds-below-0 : tie.Need-bounds-below-0
+bounds-below-0 c = search rules
 
-mul-below : tie.Need-overflow-mul-below
-mul-below c = search rules
+offset_bounds-below-first : tie.Need-offset_bounds-below-first
+offset_bounds-below-first c = search rules
 
-slice-write-below-2 : tie.Need-slice-write-below-2
-slice-write-below-2 c = search rules
+bounds-below-first : tie.Need-bounds-below-first
+bounds-below-first c = search rules
 
-slice-write-levels : tie.Need-slice-write-levels
-slice-write-levels c = search rules
+bounds-levels-0 : tie.Need-bounds-levels-0
+bounds-levels-0 c = search rules
 
-mul-levels : tie.Need-overflow-mul-levels
-mul-levels c = search rules
+offset_bounds-levels-first : tie.Need-offset_bounds-levels-first
+offset_bounds-levels-first c = search rules
 
-slice-write-levels-2 : tie.Need-slice-write-levels-2
-slice-write-levels-2 c = search rules
+bounds-levels-first : tie.Need-bounds-levels-first
+bounds-levels-first c = search rules
 
-mul-slacks : tie.Need-overflow-mul-slacks
-mul-slacks c = search rules
+offset_bounds-own-first : tie.Need-offset_bounds-own-first
+offset_bounds-own-first c = search rules
 
-shared-slice-copy-out-slacks : tie.Need-shared-slice-copy-out-slacks
-shared-slice-copy-out-slacks c = search rules
+bounds-own-first : tie.Need-bounds-own-first
+bounds-own-first c = search rules
 
-slice-set-from-slacks : tie.Need-slice-set-from-slacks
-slice-set-from-slacks c = search rules
+bounds-slacks-0 : tie.Need-bounds-slacks-0
+bounds-slacks-0 c = search rules
 
-mul-slacks-2 : tie.Need-overflow-mul-slacks-2
-mul-slacks-2 c = search rules
+offset_bounds-own-first-2 : tie.Need-offset_bounds-own-first-2
+offset_bounds-own-first-2 c = search rules
 
-shared-slice-copy-out-slacks-2 : tie.Need-shared-slice-copy-out-slacks-2
-shared-slice-copy-out-slacks-2 c = search rules
+bounds-own-first-2 : tie.Need-bounds-own-first-2
+bounds-own-first-2 c = search rules
 
-mul-t20 : tie.Need-overflow-mul-t20
-mul-t20 c = search rules
+offset_bounds-slacks-first : tie.Need-offset_bounds-slacks-first
+offset_bounds-slacks-first c = search rules
 
-slice-set-from-slacks-2 : tie.Need-slice-set-from-slacks-2
-slice-set-from-slacks-2 c = search rules
+bounds-slacks-first : tie.Need-bounds-slacks-first
+bounds-slacks-first c = search rules
 
-same_length : tie.Need-same-length
-same_length c = search rules
+shape_of-levels : tie.Need-shape_of-levels
+shape_of-levels c = search rules
 
-same-length-2 : tie.Need-same-length-2
-same-length-2 c = search rules
+shape_of-slacks : tie.Need-shape_of-slacks
+shape_of-slacks c = search rules
 
-same-length-3 : tie.Need-same-length-3
-same-length-3 c = search rules
+shape_of-parents : tie.Need-shape_of-parents
+shape_of-parents c = search rules
 
-same-length-4 : tie.Need-same-length-4
-same-length-4 c = search rules
+shape_of-below : tie.Need-shape_of-below
+shape_of-below c = search rules
 
 returns : tie.Need-returns
 returns c =
-    let a = c.before.before.before.before.before.before.before.before.before.args in
-    let own = to_z-of_z (fit (get_or a.own.now a.first (pos 0)) c.slacks2.given) in
-    (refl, ((λ i. set (set a.slacks.now 0 (own i)) a.first (own i)), (c.before.before.before.before.clear.ensures, refl)))
+    let a = c.args in
+    let own = to_z-of_z (fit (get_or a.own.now a.first (pos 0)) c.slacks-2-1.given) in
+    (refl, ((λ i. set (set a.slacks.now 0 (own i)) a.first (own i)), (c.clear.ensures, refl)))
 
-pub insert-first-spec : {M : Type 1} → statement M
-insert-first-spec =
+pub insert_first_spec : {M : Type 1} → statement M
+insert_first_spec =
     tie.close
     (tie.spec
-    mul-clear
+    overflow_mul-n
     clear-requires
-    slice-write-below
-    mul-below
-    slice-write-below-2
-    slice-write-levels
-    mul-levels
-    slice-write-levels-2
-    mul-slacks
-    shared-slice-copy-out-slacks
-    slice-set-from-slacks
-    mul-slacks-2
-    shared-slice-copy-out-slacks-2
-    mul-t20
-    slice-set-from-slacks-2
-    same_length
-    same-length-2
-    same-length-3
-    same-length-4
+    bounds-below-0
+    offset_bounds-below-first
+    bounds-below-first
+    bounds-levels-0
+    offset_bounds-levels-first
+    bounds-levels-first
+    offset_bounds-own-first
+    bounds-own-first
+    bounds-slacks-0
+    offset_bounds-own-first-2
+    bounds-own-first-2
+    offset_bounds-slacks-first
+    bounds-slacks-first
+    shape_of-levels
+    shape_of-slacks
+    shape_of-parents
+    shape_of-below
     returns)

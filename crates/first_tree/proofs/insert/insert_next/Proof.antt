@@ -14,19 +14,19 @@ use borrow.Author.Rules.{rules}
 use Rattle.first_tree.proofs.insert.insert_next.Statement.{statement}
 use Rattle.first_tree.proofs.insert.insert_next.Tie as tie
 
-add-s : tie.Need-overflow-add-s
-add-s c = search rules
+overflow_add-s : tie.Need-overflow_add-s
+overflow_add-s c = search rules
 
-mul-s : tie.Need-overflow-mul-s
-mul-s c = search rules
+offset_bounds-sinks-k : tie.Need-offset_bounds-sinks-k
+offset_bounds-sinks-k c = search rules
 
-shared-slice-read-s : tie.Need-shared-slice-read-s
-shared-slice-read-s c = search rules
+bounds-sinks-k : tie.Need-bounds-sinks-k
+bounds-sinks-k c = search rules
 
-choose-requires : tie.Need-choose-requires
-choose-requires c κs =
-    let a = c.before.before.before.before.before.before.args in
-    let p = c.before.before.before.before.before.before.requires in
+choose-v-requires : tie.Need-choose-v-requires
+choose-v-requires c κs =
+    let a = c.args in
+    let p = c.requires in
     let r = p.0.1 in
     let b : Within time_reach a.branch.0 = branch_reach r.0 in
     let kn = p.1.0 in
@@ -48,88 +48,88 @@ choose-requires c κs =
 
 regather-requires : tie.Need-regather-requires
 regather-requires c κs =
-    let p = c.before.before.before.before.before.before.before.before.before.before.before.requires in
+    let p = c.requires in
     let r = p.0.1 in
-    let best = c.before.before.before.before.choose.ensures in
+    let best = c.choose-v.ensures in
     ((p.0.0, (r.0, r.3, s_next r.0 r.1 r.2 r.3.inserted r.3.gathered p.1.0 refl best, (splits_next r.0 r.1 r.2 r.3.inserted r.3.gathered p.1.0 refl best).0)), omega (arith, p.1))
 
 -- v and its parent are vertices
-in_tree : (c : tie.After-choose) → (c.choose.result < 2 * c.before.before.before.before.before.before.before.args.n) × (get_or c.before.before.before.before.before.before.before.args.parents.now c.choose.result 0 < 2 * c.before.before.before.before.before.before.before.args.n)
+in_tree : (c : tie.After-choose-v) → (c.choose-v.result < 2 * c.args.n) × (get_or c.args.parents.now c.choose-v.result 0 < 2 * c.args.n)
 in_tree c =
-    let p = c.before.before.before.before.before.before.before.requires in
+    let p = c.requires in
     let r = p.0.1 in
-    let w = end_place r.0 r.1 r.2 r.3.inserted r.3.gathered p.1.0 refl c.choose.ensures in
-    (omega (arith, place_in r.0 r.3.inserted (omega arith) w.0 w.1, w.2), omega (arith, parent_in r.0 r.3.inserted (omega arith) w.0 w.1, ap (λ (z : ℕ). get_or c.before.before.before.before.before.before.before.args.parents.now z 0) w.2))
+    let w = end_place r.0 r.1 r.2 r.3.inserted r.3.gathered p.1.0 refl c.choose-v.ensures in
+    (omega (arith, place_in r.0 r.3.inserted (omega arith) w.0 w.1, w.2), omega (arith, parent_in r.0 r.3.inserted (omega arith) w.0 w.1, ap (λ (z : ℕ). get_or c.args.parents.now z 0) w.2))
 
-mul-put-before : tie.Need-overflow-mul-put-before
-mul-put-before c = omega (arith, in_tree c.before.before.before.before.before.before.before.before.before, few_sinks c.before.before.before.before.before.before.before.before.before.before.before.before.before.before.before.before.requires.0.1.0)
+offset_bounds-parents-v : tie.Need-offset_bounds-parents-v
+offset_bounds-parents-v c = omega (arith, in_tree c.before.before.before.before.before.before.before, few_sinks c.requires.0.1.0)
 
-slice-read-put-before : tie.Need-slice-read-put-before
-slice-read-put-before c = omega (arith, in_tree c.before.before.before.before.before.before.before.before.before.before, c.before.before.before.before.before.before.before.before.before.before.before.before.before.before.before.before.before.requires.1)
+bounds-parents-v : tie.Need-bounds-parents-v
+bounds-parents-v c = omega (arith, in_tree c.before.before.before.before.before.before.before.before, c.requires.1)
 
-add-put-before : tie.Need-overflow-add-put-before
-add-put-before c = omega (arith, c.before.before.before.before.before.before.before.before.before.before.before.before.before.before.before.before.before.requires.1, few_sinks c.before.before.before.before.before.before.before.before.before.before.before.before.before.before.before.before.before.requires.0.1.0)
+overflow_add-n : tie.Need-overflow_add-n
+overflow_add-n c = omega (arith, c.requires.1, few_sinks c.requires.0.1.0)
 
-add-put-before-2 : tie.Need-overflow-add-put-before-2
-add-put-before-2 c = omega (arith, c.before.before.before.before.before.before.before.before.before.before.before.before.before.before.before.before.before.requires.1, few_sinks c.before.before.before.before.before.before.before.before.before.before.before.before.before.before.before.before.before.requires.0.1.0)
+overflow_add-n-2 : tie.Need-overflow_add-n-2
+overflow_add-n-2 c = omega (arith, c.requires.1, few_sinks c.requires.0.1.0)
 
-put-before-requires : tie.Need-put-before-requires
-put-before-requires c κs = let p = c.before.before.before.before.before.before.before.before.before.before.before.before.before.before.before.before.before.requires in let r = p.0.1 in omega (arith, p.1, in_tree c.before.before.before.before.before.before.before.before.before.before, line_in_lem r.1 r.0.size_is (c.before.before.before.before.before.before.before.before.before.before.before.before.before.before.before.before.before.args.k + 1) (omega arith))
+put_before-requires : tie.Need-put_before-requires
+put_before-requires c κs = let p = c.requires in let r = p.0.1 in omega (arith, p.1, in_tree c.before.before.before.before.before.before.before.before, line_in_lem r.1 r.0.size_is (c.args.k + 1) (omega arith))
 
-add-split-edge : tie.Need-overflow-add-split-edge
-add-split-edge c = omega (arith, c.before.before.before.before.before.before.before.before.before.before.before.before.before.before.before.before.before.before.before.before.before.requires.1, few_sinks c.before.before.before.before.before.before.before.before.before.before.before.before.before.before.before.before.before.before.before.before.before.requires.0.1.0)
+overflow_add-n-3 : tie.Need-overflow_add-n-3
+overflow_add-n-3 c = omega (arith, c.requires.1, few_sinks c.requires.0.1.0)
 
-add-split-edge-2 : tie.Need-overflow-add-split-edge-2
-add-split-edge-2 c = omega (arith, c.before.before.before.before.before.before.before.before.before.before.before.before.before.before.before.before.before.before.before.before.before.requires.1, few_sinks c.before.before.before.before.before.before.before.before.before.before.before.before.before.before.before.before.before.before.before.before.before.requires.0.1.0)
+overflow_add-n-4 : tie.Need-overflow_add-n-4
+overflow_add-n-4 c = omega (arith, c.requires.1, few_sinks c.requires.0.1.0)
 
-split-edge-requires : tie.Need-split-edge-requires
-split-edge-requires c κs = let p = c.before.before.before.before.before.before.before.before.before.before.before.before.before.before.before.before.before.before.before.before.before.requires in let r = p.0.1 in omega (arith, p.1, in_tree c.before.before.before.before.before.before.before.before.before.before.before.before.before.before, line_in_lem r.1 r.0.size_is (c.before.before.before.before.before.before.before.before.before.before.before.before.before.before.before.before.before.before.before.before.before.args.k + 1) (omega arith))
+split_edge-requires : tie.Need-split_edge-requires
+split_edge-requires c κs = let p = c.requires in let r = p.0.1 in omega (arith, p.1, in_tree c.before.before.before.before.before.before.before.before.before.before.before.before, line_in_lem r.1 r.0.size_is (c.args.k + 1) (omega arith))
 
-same_length : tie.Need-same-length
-same_length c = search rules
+shape_of-levels : tie.Need-shape_of-levels
+shape_of-levels c = search rules
 
-same-length-2 : tie.Need-same-length-2
-same-length-2 c = search rules
+shape_of-slacks : tie.Need-shape_of-slacks
+shape_of-slacks c = search rules
 
-same-length-3 : tie.Need-same-length-3
-same-length-3 c = search rules
+shape_of-parents : tie.Need-shape_of-parents
+shape_of-parents c = search rules
 
-same-length-4 : tie.Need-same-length-4
-same-length-4 c = search rules
+shape_of-below : tie.Need-shape_of-below
+shape_of-below c = search rules
 
 returns : tie.Need-returns
 returns c =
-    let a = c.before.before.before.before.before.before.before.before.before.before.before.before.before.before.before.before.before.before.before.before.before.before.before.before.args in
-    let p = c.before.before.before.before.before.before.before.before.before.before.before.before.before.before.before.before.before.before.before.before.before.before.before.before.requires in
-    let best = c.before.before.before.before.before.before.before.before.before.before.before.before.before.before.before.before.before.choose.ensures in
+    let a = c.args in
+    let p = c.requires in
+    let best = c.choose-v.ensures in
     λ N R L W H.
     let I = H.inserted in
     let G = H.gathered in
-    let n = c.before.before.before.before.before.before.before.before.before.before.before.before.regather.ensures in
+    let n = c.regather.ensures in
     let sn = s_next R L W I G p.1.0 refl best in
     let X = splits_next R L W I G p.1.0 refl best in
-    let o = next_order R L W I G p.1.0 refl best a.below.now refl p.1.3 p.1.4 H.chained c.before.before.split-edge.ensures c.before.before.before.before.before.before.put-before.ensures in
+    let o = next_order R L W I G p.1.0 refl best a.below.now refl p.1.3 p.1.4 H.chained c.split_edge.ensures c.put_before.ensures in
     record { upward = o.0; inserted = o.1; chained = o.2; leveled = n.0 N R H sn X; gathered = n.1 N R H sn X }
 
-pub insert-next-spec : {M : Type 1} → statement M
-insert-next-spec =
+pub insert_next_spec : {M : Type 1} → statement M
+insert_next_spec =
     tie.close
     (tie.spec
-    add-s
-    mul-s
-    shared-slice-read-s
-    choose-requires
+    overflow_add-s
+    offset_bounds-sinks-k
+    bounds-sinks-k
+    choose-v-requires
     regather-requires
-    mul-put-before
-    slice-read-put-before
-    add-put-before
-    add-put-before-2
-    put-before-requires
-    add-split-edge
-    add-split-edge-2
-    split-edge-requires
-    same_length
-    same-length-2
-    same-length-3
-    same-length-4
+    offset_bounds-parents-v
+    bounds-parents-v
+    overflow_add-n
+    overflow_add-n-2
+    put_before-requires
+    overflow_add-n-3
+    overflow_add-n-4
+    split_edge-requires
+    shape_of-levels
+    shape_of-slacks
+    shape_of-parents
+    shape_of-below
     returns)

@@ -6,5 +6,5 @@ use Rattle.formats.proofs.limits.limits_agree.Tie as tie
 returns : tie.Need-returns
 returns c = (refl, (refl, refl))
 
-pub limits-agree-spec : {M : Type 1} → statement M
-limits-agree-spec = tie.close (tie.spec returns)
+pub limits_agree_spec : {M : Type 1} → statement M
+limits_agree_spec = tie.close (tie.spec returns)

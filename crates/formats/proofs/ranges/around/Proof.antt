@@ -9,14 +9,14 @@ use Rattle.formats.proofs.Laws.Numbers.Signs.{difference_fits, minus_back, plain
 use Rattle.formats.proofs.ranges.around.Statement.{statement}
 use Rattle.formats.proofs.ranges.around.Tie as tie
 
-cast-t2 : tie.Need-cast-t2
-cast-t2 c = search rules
+overflow_cast-result : tie.Need-overflow_cast-result
+overflow_cast-result c = search rules
 
-sub-t3 : tie.Need-sub-t3
-sub-t3 c = difference_fits c.args.limit c.pre
+overflow_sub-result : tie.Need-overflow_sub-result
+overflow_sub-result c = difference_fits c.args.limit c.pre
 
-cast-t4 : tie.Need-cast-t4
-cast-t4 c = search rules
+overflow_cast-result-2 : tie.Need-overflow_cast-result-2
+overflow_cast-result-2 c = search rules
 
 negated : (n : ℕ) → signed true n ≡ neg_ℤ (pos n)
 negated zero = refl
@@ -25,5 +25,5 @@ negated (suc n) = refl
 returns : tie.Need-returns
 returns c = let n = c.args.limit in λ i. record { from = (minus_back n c.pre ∙ negated n) i; to = plain_back n c.pre i }
 
-pub around-spec : {M : Type 1} → statement M
-around-spec = tie.close (tie.spec cast-t2 sub-t3 cast-t4 returns)
+pub around_spec : {M : Type 1} → statement M
+around_spec = tie.close (tie.spec overflow_cast-result overflow_sub-result overflow_cast-result-2 returns)

@@ -5,11 +5,11 @@ use Rattle.formats.proofs.Laws.Numbers.Signs.{plain_back}
 use Rattle.formats.proofs.ranges.from_zero.Statement.{statement}
 use Rattle.formats.proofs.ranges.from_zero.Tie as tie
 
-cast-t2 : tie.Need-cast-t2
-cast-t2 c = search rules
+overflow_cast-result : tie.Need-overflow_cast-result
+overflow_cast-result c = search rules
 
 returns : tie.Need-returns
 returns c = λ i. record { from = pos 0; to = plain_back c.args.limit c.pre i }
 
-pub from-zero-spec : {M : Type 1} → statement M
-from-zero-spec = tie.close (tie.spec cast-t2 returns)
+pub from_zero_spec : {M : Type 1} → statement M
+from_zero_spec = tie.close (tie.spec overflow_cast-result returns)

@@ -8,26 +8,26 @@ use Rattle.formats.proofs.Laws.Numbers.Ranges.{at_cap, under_range, from_on}
 use Rattle.formats.proofs.ranges.is_inside.Statement.{statement}
 use Rattle.formats.proofs.ranges.is_inside.Tie as tie
 
+returns-then-number-ge-MAGNITUDE_CAP : tie.Need-returns-then-number-ge-MAGNITUDE_CAP
+returns-then-number-ge-MAGNITUDE_CAP c = at_cap c.args.range c.args.number c.pre c.if-number-ge-MAGNITUDE_CAP.taken
+
+value-z-requires : tie.Need-value-z-requires
+value-z-requires c κs = search rules
+
+returns-then-z-from : tie.Need-returns-then-z-from
+returns-then-z-from c =
+    let a = c.args in
+    let v = c.value-z in
+    let from = to_z-of_z (fit a.range.from c.struct_told-1.given.0.1) in
+    under_range a.range a.number c.if-number-ge-MAGNITUDE_CAP.left _ (to_z-of_z (fit v.result v.ok) ∙ v.ensures) (omega (arith, whole, from, c.if-z-from.taken))
+
 returns : tie.Need-returns
-returns c = at_cap c.before.before.args.range c.before.before.args.number c.before.before.pre c.if1.taken
+returns c =
+    let a = c.args in
+    let v = c.value-z in
+    let from = to_z-of_z (fit a.range.from c.struct_told-1.given.0.1) in
+    let to = to_z-of_z (fit a.range.to c.struct_told-2-1.given.1.0.1) in
+    from_on a.range a.number c.if-number-ge-MAGNITUDE_CAP.left _ (to_z-of_z (fit v.result v.ok) ∙ v.ensures) _ to (omega (arith, whole, from, c.if-z-from.left))
 
-value-requires : tie.Need-value-requires
-value-requires c κs = search rules
-
-returns-2 : tie.Need-returns-2
-returns-2 c =
-    let a = c.before.before.before.before.before.before.args in
-    let v = c.before.before.before.value in
-    let from = to_z-of_z (fit a.range.from c.before.before.struct_told.given.0.1) in
-    under_range a.range a.number c.before.before.before.before.if1.left _ (to_z-of_z (fit v.result v.ok) ∙ v.ensures) (omega (arith, whole, from, c.if2.taken))
-
-returns-3 : tie.Need-returns-3
-returns-3 c =
-    let a = c.before.before.before.before.before.before.args in
-    let v = c.before.before.before.value in
-    let from = to_z-of_z (fit a.range.from c.before.before.struct_told.given.0.1) in
-    let to = to_z-of_z (fit a.range.to c.before.struct-told2.given.1.0.1) in
-    from_on a.range a.number c.before.before.before.before.if1.left _ (to_z-of_z (fit v.result v.ok) ∙ v.ensures) _ to (omega (arith, whole, from, c.if2.left))
-
-pub is-inside-spec : {M : Type 1} → statement M
-is-inside-spec = tie.close (tie.spec returns value-requires returns-2 returns-3)
+pub is_inside_spec : {M : Type 1} → statement M
+is_inside_spec = tie.close (tie.spec returns-then-number-ge-MAGNITUDE_CAP value-z-requires returns-then-z-from returns)

@@ -5,11 +5,11 @@ use Rattle.formats.proofs.Laws.Numbers.Signs.{plain_back}
 use Rattle.formats.proofs.ranges.up_to.Statement.{statement}
 use Rattle.formats.proofs.ranges.up_to.Tie as tie
 
-cast-t2 : tie.Need-cast-t2
-cast-t2 c = search rules
+overflow_cast-result : tie.Need-overflow_cast-result
+overflow_cast-result c = search rules
 
 returns : tie.Need-returns
 returns c = λ i. record { from = pos 1; to = plain_back c.args.limit c.pre i }
 
-pub up-to-spec : {M : Type 1} → statement M
-up-to-spec = tie.close (tie.spec cast-t2 returns)
+pub up_to_spec : {M : Type 1} → statement M
+up_to_spec = tie.close (tie.spec overflow_cast-result returns)

@@ -16,20 +16,20 @@ by_last : (ns : Numbers) (g : Range) (t : Bool) → Tested true g ns.first → T
 by_last ns g true x y = (x, (y, tt))
 by_last ns g false x y = inr (inl y)
 
-is-inside-requires : tie.Need-is-inside-requires
-is-inside-requires c κs = search rules
+is_inside-requires : tie.Need-is_inside-requires
+is_inside-requires c κs = search rules
+
+returns-then-not-is_inside : tie.Need-returns-then-not-is_inside
+returns-then-not-is_inside c = inl (λ z e. sym (not-true _ c.if-not-is_inside.taken) ∙ c.is_inside.ensures z e)
+
+is_inside-requires-2 : tie.Need-is_inside-requires-2
+is_inside-requires-2 c κs = search rules
 
 returns : tie.Need-returns
-returns c = inl (λ z e. sym (not-true _ c.if1.taken) ∙ c.before.is-inside.ensures z e)
+returns c =
+    by_last _ _ c.is_inside-2.result
+    (λ z e. sym (not-false _ c.if-not-is_inside.left) ∙ c.is_inside.ensures z e)
+    (λ z e. c.is_inside-2.ensures z e)
 
-is-inside-requires-2 : tie.Need-is-inside-requires-2
-is-inside-requires-2 c κs = search rules
-
-returns-2 : tie.Need-returns-2
-returns-2 c =
-    by_last _ _ c.is-inside2.result
-    (λ z e. sym (not-false _ c.before.if1.left) ∙ c.before.before.is-inside.ensures z e)
-    (λ z e. c.is-inside2.ensures z e)
-
-pub both-inside-spec : {M : Type 1} → statement M
-both-inside-spec = tie.close (tie.spec is-inside-requires returns is-inside-requires-2 returns-2)
+pub both_inside_spec : {M : Type 1} → statement M
+both_inside_spec = tie.close (tie.spec is_inside-requires returns-then-not-is_inside is_inside-requires-2 returns)

@@ -5,151 +5,151 @@ use borrow.Author.Rules.{rules}
 use Rattle.formats.proofs.refusal.tell.Statement.{statement}
 use Rattle.formats.proofs.refusal.tell.Tie as tie
 
-enum-known-refusal : tie.Need-enum-known-refusal
-enum-known-refusal c = search rules
+enum_known-refusal : tie.Need-enum_known-refusal
+enum_known-refusal c = search rules
 
-text-number-requires : tie.Need-text-number-requires
-text-number-requires c κs = search rules
+text_number-requires : tie.Need-text_number-requires
+text_number-requires c κs = search rules
 
-enum-known-refusal-2 : tie.Need-enum-known-refusal-2
-enum-known-refusal-2 c = search rules
+enum_known-refusal-in-NotDue-1 : tie.Need-enum_known-refusal-in-NotDue-1
+enum_known-refusal-in-NotDue-1 c = search rules
 
-text-number-requires-2 : tie.Need-text-number-requires-2
-text-number-requires-2 c κs = search rules
+text_number-requires-in-NotDue : tie.Need-text_number-requires-in-NotDue
+text_number-requires-in-NotDue c κs = search rules
 
-enum-known-refusal-3 : tie.Need-enum-known-refusal-3
-enum-known-refusal-3 c = search rules
+enum_known-refusal-in-OutOfRange-1 : tie.Need-enum_known-refusal-in-OutOfRange-1
+enum_known-refusal-in-OutOfRange-1 c = search rules
 
-text-number-requires-3 : tie.Need-text-number-requires-3
-text-number-requires-3 c κs = search rules
+text_number-requires-in-OutOfRange : tie.Need-text_number-requires-in-OutOfRange
+text_number-requires-in-OutOfRange c κs = search rules
 
-enum-known-refusal-4 : tie.Need-enum-known-refusal-4
-enum-known-refusal-4 c = search rules
+enum_known-refusal-in-BytesFollow-1 : tie.Need-enum_known-refusal-in-BytesFollow-1
+enum_known-refusal-in-BytesFollow-1 c = search rules
 
-text-number-requires-4 : tie.Need-text-number-requires-4
-text-number-requires-4 c κs = search rules
+text_number-requires-in-BytesFollow : tie.Need-text_number-requires-in-BytesFollow
+text_number-requires-in-BytesFollow c κs = search rules
 
-enum_told : tie.Need-enum-told
-enum_told c = search rules
+enum_told-1 : tie.Need-enum_told-1
+enum_told-1 c = search rules
 
-enum-told-2 : tie.Need-enum-told-2
-enum-told-2 c = search rules
+enum_told-in-TooShort : tie.Need-enum_told-in-TooShort
+enum_told-in-TooShort c = search rules
 
-enum-told-3 : tie.Need-enum-told-3
-enum-told-3 c = search rules
+enum_told-in-OtherCount : tie.Need-enum_told-in-OtherCount
+enum_told-in-OtherCount c = search rules
 
-enum-known-refusal-5 : tie.Need-enum-known-refusal-5
-enum-known-refusal-5 c = search rules
+enum_known-refusal-in-SinkParent-1 : tie.Need-enum_known-refusal-in-SinkParent-1
+enum_known-refusal-in-SinkParent-1 c = search rules
 
-enum-known-refusal-6 : tie.Need-enum-known-refusal-6
-enum-known-refusal-6 c = search rules
+enum_known-refusal-in-WrongChildren-1 : tie.Need-enum_known-refusal-in-WrongChildren-1
+enum_known-refusal-in-WrongChildren-1 c = search rules
 
-enum-known-refusal-7 : tie.Need-enum-known-refusal-7
-enum-known-refusal-7 c = search rules
+enum_known-refusal-in-NotReached-1 : tie.Need-enum_known-refusal-in-NotReached-1
+enum_known-refusal-in-NotReached-1 c = search rules
 
-enum-told-4 : tie.Need-enum-told-4
-enum-told-4 c = search rules
+enum_told-in-OtherSlack : tie.Need-enum_told-in-OtherSlack
+enum_told-in-OtherSlack c = search rules
 
-enum-told-5 : tie.Need-enum-told-5
-enum-told-5 c = search rules
+enum_told-in-OtherWire : tie.Need-enum_told-in-OtherWire
+enum_told-in-OtherWire c = search rules
 
-enum-known-refusal-8 : tie.Need-enum-known-refusal-8
-enum-known-refusal-8 c = search rules
+enum_known-refusal-in-FarPin-1 : tie.Need-enum_known-refusal-in-FarPin-1
+enum_known-refusal-in-FarPin-1 c = search rules
 
-enum-told-6 : tie.Need-enum-told-6
-enum-told-6 c = search rules
+enum_told-in-NotScored : tie.Need-enum_told-in-NotScored
+enum_told-in-NotScored c = search rules
 
-enum-told-7 : tie.Need-enum-told-7
-enum-told-7 c = search rules
+enum_told-in-NotASink : tie.Need-enum_told-in-NotASink
+enum_told-in-NotASink c = search rules
 
-enum-told-8 : tie.Need-enum-told-8
-enum-told-8 c = search rules
+enum_told-in-OnlySink : tie.Need-enum_told-in-OnlySink
+enum_told-in-OnlySink c = search rules
 
-returns : tie.Need-returns
-returns c = (λ i. record { number = 1; text = c.text-number.ensures i; line = 0 }) ∙ sym (ap told c.before.before.refusal.given.1)
+returns-in-TooLong : tie.Need-returns-in-TooLong
+returns-in-TooLong c = (λ i. record { number = 1; text = c.text_number.ensures i; line = 0 }) ∙ sym (ap told c.refusal-1.given.1)
 
-returns-2 : tie.Need-returns-2
-returns-2 c = (λ i. record { number = 2; text = c.text-number2.ensures i; line = c.before.before.refusal2.given.0.1.0 }) ∙ sym (ap told c.before.before.refusal2.given.1)
+returns-in-NotDue : tie.Need-returns-in-NotDue
+returns-in-NotDue c = (λ i. record { number = 2; text = c.text_number-in-NotDue.ensures i; line = c.refusal-in-NotDue-1.given.0.1.0 }) ∙ sym (ap told c.refusal-in-NotDue-1.given.1)
 
-returns-3 : tie.Need-returns-3
-returns-3 c = (λ i. record { number = 3; text = c.text-number3.ensures i; line = c.before.before.refusal3.given.0.1.0 }) ∙ sym (ap told c.before.before.refusal3.given.1)
+returns-in-OutOfRange : tie.Need-returns-in-OutOfRange
+returns-in-OutOfRange c = (λ i. record { number = 3; text = c.text_number-in-OutOfRange.ensures i; line = c.refusal-in-OutOfRange-1.given.0.1.0 }) ∙ sym (ap told c.refusal-in-OutOfRange-1.given.1)
 
-returns-4 : tie.Need-returns-4
-returns-4 c = (λ i. record { number = 4; text = c.text-number4.ensures i; line = c.before.before.refusal4.given.0.1.0 }) ∙ sym (ap told c.before.before.refusal4.given.1)
+returns-in-BytesFollow : tie.Need-returns-in-BytesFollow
+returns-in-BytesFollow c = (λ i. record { number = 4; text = c.text_number-in-BytesFollow.ensures i; line = c.refusal-in-BytesFollow-1.given.0.1.0 }) ∙ sym (ap told c.refusal-in-BytesFollow-1.given.1)
 
-returns-5 : tie.Need-returns-5
-returns-5 c = sym (ap told c.enum_told.given.1)
+returns-in-Unreachable : tie.Need-returns-in-Unreachable
+returns-in-Unreachable c = sym (ap told c.enum_told-1.given.1)
 
-returns-6 : tie.Need-returns-6
-returns-6 c = sym (ap told c.enum-told2.given.1)
+returns-in-TooShort : tie.Need-returns-in-TooShort
+returns-in-TooShort c = sym (ap told c.enum_told-in-TooShort-1.given.1)
 
-returns-7 : tie.Need-returns-7
-returns-7 c = sym (ap told c.enum-told3.given.1)
+returns-in-OtherCount : tie.Need-returns-in-OtherCount
+returns-in-OtherCount c = sym (ap told c.enum_told-in-OtherCount-1.given.1)
 
-returns-8 : tie.Need-returns-8
-returns-8 c = sym (ap told c.before.refusal5.given.1)
+returns-in-SinkParent : tie.Need-returns-in-SinkParent
+returns-in-SinkParent c = sym (ap told c.refusal-in-SinkParent-1.given.1)
 
-returns-9 : tie.Need-returns-9
-returns-9 c = sym (ap told c.before.refusal6.given.1)
+returns-in-WrongChildren : tie.Need-returns-in-WrongChildren
+returns-in-WrongChildren c = sym (ap told c.refusal-in-WrongChildren-1.given.1)
 
-returns-10 : tie.Need-returns-10
-returns-10 c = sym (ap told c.before.refusal7.given.1)
+returns-in-NotReached : tie.Need-returns-in-NotReached
+returns-in-NotReached c = sym (ap told c.refusal-in-NotReached-1.given.1)
 
-returns-11 : tie.Need-returns-11
-returns-11 c = sym (ap told c.enum-told4.given.1)
+returns-in-OtherSlack : tie.Need-returns-in-OtherSlack
+returns-in-OtherSlack c = sym (ap told c.enum_told-in-OtherSlack-1.given.1)
 
-returns-12 : tie.Need-returns-12
-returns-12 c = sym (ap told c.enum-told5.given.1)
+returns-in-OtherWire : tie.Need-returns-in-OtherWire
+returns-in-OtherWire c = sym (ap told c.enum_told-in-OtherWire-1.given.1)
 
-returns-13 : tie.Need-returns-13
-returns-13 c = sym (ap told c.before.refusal8.given.1)
+returns-in-FarPin : tie.Need-returns-in-FarPin
+returns-in-FarPin c = sym (ap told c.refusal-in-FarPin-1.given.1)
 
-returns-14 : tie.Need-returns-14
-returns-14 c = sym (ap told c.enum-told6.given.1)
+returns-in-NotScored : tie.Need-returns-in-NotScored
+returns-in-NotScored c = sym (ap told c.enum_told-in-NotScored-1.given.1)
 
-returns-15 : tie.Need-returns-15
-returns-15 c = sym (ap told c.enum-told7.given.1)
+returns-in-NotASink : tie.Need-returns-in-NotASink
+returns-in-NotASink c = sym (ap told c.enum_told-in-NotASink-1.given.1)
 
-returns-16 : tie.Need-returns-16
-returns-16 c = sym (ap told c.enum-told8.given.1)
+returns-in-OnlySink : tie.Need-returns-in-OnlySink
+returns-in-OnlySink c = sym (ap told c.enum_told-in-OnlySink-1.given.1)
 
-pub tell-spec : {M : Type 1} → statement M
-tell-spec =
+pub tell_spec : {M : Type 1} → statement M
+tell_spec =
     tie.close
     (tie.spec
-    enum-known-refusal
-    text-number-requires
-    enum-known-refusal-2
-    text-number-requires-2
-    enum-known-refusal-3
-    text-number-requires-3
-    enum-known-refusal-4
-    text-number-requires-4
-    enum_told
-    enum-told-2
-    enum-told-3
-    enum-known-refusal-5
-    enum-known-refusal-6
-    enum-known-refusal-7
-    enum-told-4
-    enum-told-5
-    enum-known-refusal-8
-    enum-told-6
-    enum-told-7
-    enum-told-8
-    returns
-    returns-2
-    returns-3
-    returns-4
-    returns-5
-    returns-6
-    returns-7
-    returns-8
-    returns-9
-    returns-10
-    returns-11
-    returns-12
-    returns-13
-    returns-14
-    returns-15
-    returns-16)
+    enum_known-refusal
+    text_number-requires
+    enum_known-refusal-in-NotDue-1
+    text_number-requires-in-NotDue
+    enum_known-refusal-in-OutOfRange-1
+    text_number-requires-in-OutOfRange
+    enum_known-refusal-in-BytesFollow-1
+    text_number-requires-in-BytesFollow
+    enum_told-1
+    enum_told-in-TooShort
+    enum_told-in-OtherCount
+    enum_known-refusal-in-SinkParent-1
+    enum_known-refusal-in-WrongChildren-1
+    enum_known-refusal-in-NotReached-1
+    enum_told-in-OtherSlack
+    enum_told-in-OtherWire
+    enum_known-refusal-in-FarPin-1
+    enum_told-in-NotScored
+    enum_told-in-NotASink
+    enum_told-in-OnlySink
+    returns-in-TooLong
+    returns-in-NotDue
+    returns-in-OutOfRange
+    returns-in-BytesFollow
+    returns-in-Unreachable
+    returns-in-TooShort
+    returns-in-OtherCount
+    returns-in-SinkParent
+    returns-in-WrongChildren
+    returns-in-NotReached
+    returns-in-OtherSlack
+    returns-in-OtherWire
+    returns-in-FarPin
+    returns-in-NotScored
+    returns-in-NotASink
+    returns-in-OnlySink)

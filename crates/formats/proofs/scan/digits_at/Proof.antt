@@ -9,55 +9,55 @@ use mathlib.Core.Path.{sym, ◌∙◌}
 use Rattle.formats.proofs.scan.digits_at.Statement.{statement}
 use Rattle.formats.proofs.scan.digits_at.Tie as tie
 
-abbrev invariant-loop : tie.invariant-loop
-invariant-loop text from neg number₀ i₀ number i = Going neg text from number i
+abbrev invariant-loop-i : tie.invariant-loop-i
+invariant-loop-i text from neg number₀ i₀ number i = Going neg text from number i
 
-abbrev decreases-loop : tie.decreases-loop
-decreases-loop text from neg number₀ i₀ number i = length text - i
+abbrev decreases-loop-i : tie.decreases-loop-i
+decreases-loop-i text from neg number₀ i₀ number i = length text - i
 
-new-requires : tie.Need-new-requires invariant-loop decreases-loop
-new-requires c κs = search rules
+new-number-requires : tie.Need-new-number-requires invariant-loop-i decreases-loop-i
+new-number-requires c κs = search rules
 
-loop-holds : tie.Need-loop-init invariant-loop decreases-loop
-loop-holds c = rw c.new.ensures (going_start _ _ _ (search rules))
+loop-i-init : tie.Need-loop-i-init invariant-loop-i decreases-loop-i
+loop-i-init c = rw c.new-number.ensures (going_start _ _ _ (search rules))
 
-shared-slice-read-b : tie.Need-shared-slice-read-b invariant-loop decreases-loop
-shared-slice-read-b c = search rules
+bounds-text-i : tie.Need-bounds-text-i invariant-loop-i decreases-loop-i
+bounds-text-i c = search rules
 
-is-digit-requires : tie.Need-is-digit-requires invariant-loop decreases-loop
-is-digit-requires c κs = search rules
+is_digit-requires : tie.Need-is_digit-requires invariant-loop-i decreases-loop-i
+is_digit-requires c κs = search rules
 
-returns : tie.Need-returns invariant-loop decreases-loop
-returns c = going_stop _ _ _ _ _ (lead_other _ _ c.before.before.before.loop-test.true (sym c.before.is_digit.ensures ∙ not-true _ c.if1.true)) c.before.before.before.before.loop.invariant
+returns-then-not-is_digit : tie.Need-returns-then-not-is_digit invariant-loop-i decreases-loop-i
+returns-then-not-is_digit c = going_stop _ _ _ _ _ (lead_other _ _ c.loop-i-test.true (sym c.is_digit.ensures ∙ not-true _ c.if-not-is_digit.true)) c.loop-i.invariant
 
-digit-requires : tie.Need-digit-requires invariant-loop decreases-loop
-digit-requires c κs = digit_range _ (sym c.before.is_digit.ensures ∙ not-false _ c.if1.false)
+digit-number-requires : tie.Need-digit-number-requires invariant-loop-i decreases-loop-i
+digit-number-requires c κs = digit_range _ (sym c.is_digit.ensures ∙ not-false _ c.if-not-is_digit.false)
 
-add-i : tie.Need-overflow-add-i invariant-loop decreases-loop
-add-i c = search rules
+overflow_add-i : tie.Need-overflow_add-i invariant-loop-i decreases-loop-i
+overflow_add-i c = search rules
 
-loop-less : tie.Need-loop-smaller invariant-loop decreases-loop
-loop-less c = search rules
+loop-i-smaller : tie.Need-loop-i-smaller invariant-loop-i decreases-loop-i
+loop-i-smaller c = search rules
 
-loop-again : tie.Need-loop-preserved invariant-loop decreases-loop
-loop-again c = rw c.digit.ensures (going_more _ _ _ _ _ (search rules) (sym c.before.before.is_digit.ensures ∙ not-false _ c.before.if1.false) c.before.before.before.before.before.loop.invariant)
+loop-i-preserved : tie.Need-loop-i-preserved invariant-loop-i decreases-loop-i
+loop-i-preserved c = rw c.digit-number.ensures (going_more _ _ _ _ _ (search rules) (sym c.is_digit.ensures ∙ not-false _ c.if-not-is_digit.false) c.loop-i.invariant)
 
-returns-2 : tie.Need-returns-2 invariant-loop decreases-loop
-returns-2 c = going_stop _ _ _ _ _ (lead_end _ _ c.loop-test.false) c.before.loop.invariant
+returns : tie.Need-returns invariant-loop-i decreases-loop-i
+returns c = going_stop _ _ _ _ _ (lead_end _ _ c.loop-i-test.false) c.loop-i.invariant
 
-pub digits-at-spec : {M : Type 1} → statement M
-digits-at-spec =
+pub digits_at_spec : {M : Type 1} → statement M
+digits_at_spec =
     tie.close
     (tie.spec
-    invariant-loop
-    decreases-loop
-    new-requires
-    loop-holds
-    shared-slice-read-b
-    is-digit-requires
-    returns
-    digit-requires
-    add-i
-    loop-less
-    loop-again
-    returns-2)
+    invariant-loop-i
+    decreases-loop-i
+    new-number-requires
+    loop-i-init
+    bounds-text-i
+    is_digit-requires
+    returns-then-not-is_digit
+    digit-number-requires
+    overflow_add-i
+    loop-i-smaller
+    loop-i-preserved
+    returns)

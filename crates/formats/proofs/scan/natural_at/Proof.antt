@@ -4,47 +4,47 @@ use Rattle.formats.proofs.Laws.Numbers.Spelling.{run_within, by_none, by_sign, b
 use Rattle.formats.proofs.scan.natural_at.Statement.{statement}
 use Rattle.formats.proofs.scan.natural_at.Tie as tie
 
-digits-at-requires : tie.Need-digits-at-requires
-digits-at-requires c κs = search rules
+digits_at-run-requires : tie.Need-digits_at-run-requires
+digits_at-run-requires c κs = search rules
+
+returns-then-end-from : tie.Need-returns-then-end-from
+returns-then-end-from c = by_none _ _ _ _ c.digits_at-run.ensures c.if-end-from.true
+
+bounds-text-from : tie.Need-bounds-text-from
+bounds-text-from c = run_within _ _ _ _ c.digits_at-run.ensures (search rules) c.if-end-from.false
+
+returns-then-neg : tie.Need-returns-then-neg
+returns-then-neg c =
+    let p = c in
+    by_sign _ _ _ _ p.digits_at-run.ensures p.if-end-from.false c.if-text-from-eq-ZERO.true c.if-neg.true
+
+overflow_add-from : tie.Need-overflow_add-from
+overflow_add-from c = search rules
+
+returns-then-end-from-2 : tie.Need-returns-then-end-from-2
+returns-then-end-from-2 c =
+    let p = c in
+    by_long _ _ _ _ p.digits_at-run.ensures p.if-end-from.false c.if-text-from-eq-ZERO.true c.if-end-from-2.true
+
+returns-then-text-from-eq-ZERO : tie.Need-returns-then-text-from-eq-ZERO
+returns-then-text-from-eq-ZERO c =
+    let p = c in
+    by_zero _ _ _ _ p.digits_at-run.ensures p.if-end-from.false c.if-text-from-eq-ZERO.true c.if-neg.false c.if-end-from-2.false
 
 returns : tie.Need-returns
-returns c = by_none _ _ _ _ c.before.digits-at.ensures c.if1.true
+returns c =
+    let p = c in
+    by_plain _ _ _ _ p.digits_at-run.ensures p.if-end-from.false c.if-text-from-eq-ZERO.false
 
-shared-slice-read-if2 : tie.Need-shared-slice-read-if2
-shared-slice-read-if2 c = run_within _ _ _ _ c.before.before.digits-at.ensures (search rules) c.before.if1.false
-
-returns-2 : tie.Need-returns-2
-returns-2 c =
-    let p = c.before.before in
-    by_sign _ _ _ _ p.before.before.digits-at.ensures p.before.if1.false c.before.if2.true c.if3.true
-
-add-if4 : tie.Need-overflow-add-if4
-add-if4 c = search rules
-
-returns-3 : tie.Need-returns-3
-returns-3 c =
-    let p = c.before.before.before in
-    by_long _ _ _ _ p.before.before.digits-at.ensures p.before.if1.false c.before.before.if2.true c.if4.true
-
-returns-4 : tie.Need-returns-4
-returns-4 c =
-    let p = c.before.before.before.before in
-    by_zero _ _ _ _ p.before.before.digits-at.ensures p.before.if1.false c.before.before.before.if2.true c.before.before.if3.false c.before.if4.false
-
-returns-5 : tie.Need-returns-5
-returns-5 c =
-    let p = c.before.before in
-    by_plain _ _ _ _ p.before.before.digits-at.ensures p.before.if1.false c.before.if2.false
-
-pub natural-at-spec : {M : Type 1} → statement M
-natural-at-spec =
+pub natural_at_spec : {M : Type 1} → statement M
+natural_at_spec =
     tie.close
     (tie.spec
-    digits-at-requires
-    returns
-    shared-slice-read-if2
-    returns-2
-    add-if4
-    returns-3
-    returns-4
-    returns-5)
+    digits_at-run-requires
+    returns-then-end-from
+    bounds-text-from
+    returns-then-neg
+    overflow_add-from
+    returns-then-end-from-2
+    returns-then-text-from-eq-ZERO
+    returns)

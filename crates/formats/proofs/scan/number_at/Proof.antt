@@ -6,35 +6,35 @@ use mathlib.Core.Logic.{⊎_elim}
 use Rattle.formats.proofs.scan.number_at.Statement.{statement}
 use Rattle.formats.proofs.scan.number_at.Tie as tie
 
-shared-slice-read-if2 : tie.Need-shared-slice-read-if2
-shared-slice-read-if2 c = search rules
+bounds-text-at : tie.Need-bounds-text-at
+bounds-text-at c = search rules
 
-add-natural-at : tie.Need-overflow-add-natural-at
-add-natural-at c = search rules
+overflow_add-at : tie.Need-overflow_add-at
+overflow_add-at c = search rules
 
-natural-at-requires : tie.Need-natural-at-requires
-natural-at-requires c κs = search rules
+natural_at-requires : tie.Need-natural_at-requires
+natural_at-requires c κs = search rules
+
+returns-then-text-at-eq-MINUS : tie.Need-returns-then-text-at-eq-MINUS
+returns-then-text-at-eq-MINUS c =
+    let a = c.args in
+    c.natural_at.ensures ∙ by_minus a.text.now a.at c.if-text-at-eq-MINUS.true
+
+natural_at-requires-2 : tie.Need-natural_at-requires-2
+natural_at-requires-2 c κs = search rules
 
 returns : tie.Need-returns
 returns c =
-    let a = c.before.before.before.before.before.args in
-    c.natural-at.ensures ∙ by_minus a.text.now a.at c.before.if2.true
+    let a = c.args in
+    c.natural_at-2.ensures ∙ by_digit a.text.now a.at (⊎_elim (λ w. w.2.left) (λ w. past_end a.text.now a.at w.left) c.if-at-text.branch)
 
-natural-at-requires-2 : tie.Need-natural-at-requires-2
-natural-at-requires-2 c κs = search rules
-
-returns-2 : tie.Need-returns-2
-returns-2 c =
-    let a = c.before.before.before.args in
-    c.natural-at2.ensures ∙ by_digit a.text.now a.at (⊎_elim (λ w. w.2.left) (λ w. past_end a.text.now a.at w.left) c.before.if1.branch)
-
-pub number-at-spec : {M : Type 1} → statement M
-number-at-spec =
+pub number_at_spec : {M : Type 1} → statement M
+number_at_spec =
     tie.close
     (tie.spec
-    shared-slice-read-if2
-    add-natural-at
-    natural-at-requires
-    returns
-    natural-at-requires-2
-    returns-2)
+    bounds-text-at
+    overflow_add-at
+    natural_at-requires
+    returns-then-text-at-eq-MINUS
+    natural_at-requires-2
+    returns)

@@ -5,54 +5,54 @@ use Rattle.formats.proofs.Laws.Numbers.Spelling.{then_wrong, then_short, then_un
 use Rattle.formats.proofs.scan.number_then.Statement.{statement}
 use Rattle.formats.proofs.scan.number_then.Tie as tie
 
-number-at-requires : tie.Need-number-at-requires
-number-at-requires c κs = search rules
+number_at-requires : tie.Need-number_at-requires
+number_at-requires c κs = search rules
 
-enum-known-number : tie.Need-enum-known-number
-enum-known-number c = search rules
+enum_known-number : tie.Need-enum_known-number
+enum_known-number c = search rules
 
-enum_told : tie.Need-enum-told
-enum_told c = search rules
+enum_told-1 : tie.Need-enum_told-1
+enum_told-1 c = search rules
+
+returns-in_default : tie.Need-returns-in_default
+returns-in_default c =
+    let a = c.args in
+    then_wrong a.text.now a.at a.stop (sym c.enum_told-1.given.1 ∙ c.number_at.ensures)
+
+returns-then-text-next : tie.Need-returns-then-text-next
+returns-then-text-next c =
+    let a = c.args in
+    let g = c.number-1.given in
+    then_short a.text.now a.at a.stop g.0.0 g.0.1.0 (sym g.1 ∙ c.number_at.ensures) c.if-text-next.true c.requires.1
+
+bounds-text-next : tie.Need-bounds-text-next
+bounds-text-next c = search rules
+
+returns-then-text-next-2 : tie.Need-returns-then-text-next-2
+returns-then-text-next-2 c =
+    let a = c.args in
+    let g = c.number-1.given in
+    then_unlike a.text.now a.at a.stop g.0.0 g.0.1.0 (sym g.1 ∙ c.number_at.ensures) c.if-text-next-2.true
+
+overflow_add-result : tie.Need-overflow_add-result
+overflow_add-result c = search rules
 
 returns : tie.Need-returns
 returns c =
-    let a = c.before.before.before.before.args in
-    then_wrong a.text.now a.at a.stop (sym c.enum_told.given.1 ∙ c.before.before.number_at.ensures)
+    let a = c.args in
+    let g = c.number-1.given in
+    then_like a.text.now a.at a.stop g.0.0 g.0.1.0 (sym g.1 ∙ c.number_at.ensures) c.if-text-next-2.false
 
-returns-2 : tie.Need-returns-2
-returns-2 c =
-    let a = c.before.before.before.before.before.before.args in
-    let g = c.before.before.number.given in
-    then_short a.text.now a.at a.stop g.0.0 g.0.1.0 (sym g.1 ∙ c.before.before.before.before.number_at.ensures) c.if1.true c.before.before.before.before.before.before.requires.1
-
-shared-slice-read-if2 : tie.Need-shared-slice-read-if2
-shared-slice-read-if2 c = search rules
-
-returns-3 : tie.Need-returns-3
-returns-3 c =
-    let a = c.before.before.before.before.before.before.before.before.args in
-    let g = c.before.before.before.before.number.given in
-    then_unlike a.text.now a.at a.stop g.0.0 g.0.1.0 (sym g.1 ∙ c.before.before.before.before.before.before.number_at.ensures) c.if2.true
-
-add-t7 : tie.Need-overflow-add-t7
-add-t7 c = search rules
-
-returns-4 : tie.Need-returns-4
-returns-4 c =
-    let a = c.before.before.before.before.before.before.before.before.args in
-    let g = c.before.before.before.before.number.given in
-    then_like a.text.now a.at a.stop g.0.0 g.0.1.0 (sym g.1 ∙ c.before.before.before.before.before.before.number_at.ensures) c.if2.false
-
-pub number-then-spec : {M : Type 1} → statement M
-number-then-spec =
+pub number_then_spec : {M : Type 1} → statement M
+number_then_spec =
     tie.close
     (tie.spec
-    number-at-requires
-    enum-known-number
-    enum_told
-    returns
-    returns-2
-    shared-slice-read-if2
-    returns-3
-    add-t7
-    returns-4)
+    number_at-requires
+    enum_known-number
+    enum_told-1
+    returns-in_default
+    returns-then-text-next
+    bounds-text-next
+    returns-then-text-next-2
+    overflow_add-result
+    returns)

@@ -6,55 +6,55 @@ use Rattle.formats.proofs.Laws.Lines.Keys.{Same, same_start, same_more, same_end
 use Rattle.formats.proofs.scan.starts_with.Statement.{statement}
 use Rattle.formats.proofs.scan.starts_with.Tie as tie
 
-abbrev invariant-loop : tie.invariant-loop
-invariant-loop text at key i₀ i = Same key text at i
+abbrev invariant-loop-i : tie.invariant-loop-i
+invariant-loop-i text at key i₀ i = Same key text at i
 
-abbrev decreases-loop : tie.decreases-loop
-decreases-loop text at key i₀ i = length key - i
+abbrev decreases-loop-i : tie.decreases-loop-i
+decreases-loop-i text at key i₀ i = length key - i
 
-loop-holds : tie.Need-loop-init invariant-loop decreases-loop
-loop-holds c = same_start _ _ _ c.requires
+loop-i-init : tie.Need-loop-i-init invariant-loop-i decreases-loop-i
+loop-i-init c = same_start _ _ _ c.requires
 
-add-j : tie.Need-overflow-add-j invariant-loop decreases-loop
-add-j c = search rules
+overflow_add-j : tie.Need-overflow_add-j invariant-loop-i decreases-loop-i
+overflow_add-j c = search rules
 
-returns : tie.Need-returns invariant-loop decreases-loop
-returns c = same_short _ _ _ _ c.before.loop-test.true c.if1.true c.before.before.loop.invariant
+returns-then-text-j : tie.Need-returns-then-text-j invariant-loop-i decreases-loop-i
+returns-then-text-j c = same_short _ _ _ _ c.loop-i-test.true c.if-text-j.true c.loop-i.invariant
 
-shared-slice-read-if2 : tie.Need-shared-slice-read-if2 invariant-loop decreases-loop
-shared-slice-read-if2 c = search rules
+bounds-text-j : tie.Need-bounds-text-j invariant-loop-i decreases-loop-i
+bounds-text-j c = search rules
 
-shared-slice-read-if2-2 : tie.Need-shared-slice-read-if2-2 invariant-loop decreases-loop
-shared-slice-read-if2-2 c = search rules
+bounds-key-i : tie.Need-bounds-key-i invariant-loop-i decreases-loop-i
+bounds-key-i c = search rules
 
-returns-2 : tie.Need-returns-2 invariant-loop decreases-loop
-returns-2 c = same_not _ _ _ _ (search rules) (search rules) c.if2.true c.before.before.before.before.before.loop.invariant
+returns-then-text-j-2 : tie.Need-returns-then-text-j-2 invariant-loop-i decreases-loop-i
+returns-then-text-j-2 c = same_not _ _ _ _ (search rules) (search rules) c.if-text-j-2.true c.loop-i.invariant
 
-add-i : tie.Need-overflow-add-i invariant-loop decreases-loop
-add-i c = search rules
+overflow_add-i : tie.Need-overflow_add-i invariant-loop-i decreases-loop-i
+overflow_add-i c = search rules
 
-loop-less : tie.Need-loop-smaller invariant-loop decreases-loop
-loop-less c = search rules
+loop-i-smaller : tie.Need-loop-i-smaller invariant-loop-i decreases-loop-i
+loop-i-smaller c = search rules
 
-loop-again : tie.Need-loop-preserved invariant-loop decreases-loop
-loop-again c = same_more _ _ _ _ (search rules) (search rules) c.if2.false c.before.before.before.before.before.loop.invariant
+loop-i-preserved : tie.Need-loop-i-preserved invariant-loop-i decreases-loop-i
+loop-i-preserved c = same_more _ _ _ _ (search rules) (search rules) c.if-text-j-2.false c.loop-i.invariant
 
-returns-3 : tie.Need-returns-3 invariant-loop decreases-loop
-returns-3 c = same_end _ _ _ _ c.loop-test.false c.before.loop.invariant
+returns : tie.Need-returns invariant-loop-i decreases-loop-i
+returns c = same_end _ _ _ _ c.loop-i-test.false c.loop-i.invariant
 
-pub starts-with-spec : {M : Type 1} → statement M
-starts-with-spec =
+pub starts_with_spec : {M : Type 1} → statement M
+starts_with_spec =
     tie.close
     (tie.spec
-    invariant-loop
-    decreases-loop
-    loop-holds
-    add-j
-    returns
-    shared-slice-read-if2
-    shared-slice-read-if2-2
-    returns-2
-    add-i
-    loop-less
-    loop-again
-    returns-3)
+    invariant-loop-i
+    decreases-loop-i
+    loop-i-init
+    overflow_add-j
+    returns-then-text-j
+    bounds-text-j
+    bounds-key-i
+    returns-then-text-j-2
+    overflow_add-i
+    loop-i-smaller
+    loop-i-preserved
+    returns)

@@ -10,62 +10,62 @@ use Rattle.formats.proofs.Laws.Writing.{over_nil, over_take}
 use Rattle.formats.proofs.write.put_bytes.Statement.{statement}
 use Rattle.formats.proofs.write.put_bytes.Tie as tie
 
-abbrev invariant-loop : tie.invariant-loop
-invariant-loop out₀ at s i₀ out i = (i ≤ length s) × (out ≡ over out₀ at (take i s)) × (length out ≡ length out₀)
+abbrev invariant-loop-i : tie.invariant-loop-i
+invariant-loop-i out₀ at s i₀ out i = (i ≤ length s) × (out ≡ over out₀ at (take i s)) × (length out ≡ length out₀)
 
-abbrev decreases-loop : tie.decreases-loop
-decreases-loop out₀ at s i₀ out i = length s - i
+abbrev decreases-loop-i : tie.decreases-loop-i
+decreases-loop-i out₀ at s i₀ out i = length s - i
 
-loop-holds : tie.Need-loop-init invariant-loop decreases-loop
-loop-holds c = (search rules, sym (over_nil _ _), search rules)
+loop-i-init : tie.Need-loop-i-init invariant-loop-i decreases-loop-i
+loop-i-init c = (search rules, sym (over_nil _ _), search rules)
 
-shared-slice-read-out : tie.Need-shared-slice-read-out invariant-loop decreases-loop
-shared-slice-read-out c = search rules
+bounds-s-i : tie.Need-bounds-s-i invariant-loop-i decreases-loop-i
+bounds-s-i c = search rules
 
-add-out : tie.Need-overflow-add-out invariant-loop decreases-loop
-add-out c = search rules
+overflow_add-out : tie.Need-overflow_add-out invariant-loop-i decreases-loop-i
+overflow_add-out c = search rules
 
-slice-write-out : tie.Need-slice-write-out invariant-loop decreases-loop
-slice-write-out c = search rules
+bounds-out-at : tie.Need-bounds-out-at invariant-loop-i decreases-loop-i
+bounds-out-at c = search rules
 
-add-i : tie.Need-overflow-add-i invariant-loop decreases-loop
-add-i c = search rules
+overflow_add-i : tie.Need-overflow_add-i invariant-loop-i decreases-loop-i
+overflow_add-i c = search rules
 
-loop-less : tie.Need-loop-smaller invariant-loop decreases-loop
-loop-less c = search rules
+loop-i-smaller : tie.Need-loop-i-smaller invariant-loop-i decreases-loop-i
+loop-i-smaller c = search rules
 
-loop-again : tie.Need-loop-preserved invariant-loop decreases-loop
-loop-again c = (
+loop-i-preserved : tie.Need-loop-i-preserved invariant-loop-i decreases-loop-i
+loop-i-preserved c = (
   search rules,
-  rw (c.before.before.loop.invariant.1, add-one) (over_take _ _ _ _ c.before.before.before.requires c.before.loop-test.true),
+  rw (c.loop-i.invariant.1, add-one) (over_take _ _ _ _ c.requires c.loop-i-test.true),
   search rules,
 )
 
-add-result : tie.Need-overflow-add-result invariant-loop decreases-loop
-add-result c = search rules
+overflow_add-result : tie.Need-overflow_add-result invariant-loop-i decreases-loop-i
+overflow_add-result c = search rules
 
-same_length : tie.Need-same-length invariant-loop decreases-loop
-same_length c = search rules
+shape_of-out : tie.Need-shape_of-out invariant-loop-i decreases-loop-i
+shape_of-out c = search rules
 
-returns : tie.Need-returns invariant-loop decreases-loop
+returns : tie.Need-returns invariant-loop-i decreases-loop-i
 returns c =
-    let s = c.before.before.args.s.now in
-    let e : take c.before.loop.i s ≡ s = take_all _ s c.loop-test.false in
-    (search rules, rw e at c.before.loop.invariant.1)
+    let s = c.args.s.now in
+    let e : take c.loop-i.i s ≡ s = take_all _ s c.loop-i-test.false in
+    (search rules, rw e at c.loop-i.invariant.1)
 
-pub put-bytes-spec : {M : Type 1} → statement M
-put-bytes-spec =
+pub put_bytes_spec : {M : Type 1} → statement M
+put_bytes_spec =
     tie.close
     (tie.spec
-    invariant-loop
-    decreases-loop
-    loop-holds
-    shared-slice-read-out
-    add-out
-    slice-write-out
-    add-i
-    loop-less
-    loop-again
-    add-result
-    same_length
+    invariant-loop-i
+    decreases-loop-i
+    loop-i-init
+    bounds-s-i
+    overflow_add-out
+    bounds-out-at
+    overflow_add-i
+    loop-i-smaller
+    loop-i-preserved
+    overflow_add-result
+    shape_of-out
     returns)

@@ -25,43 +25,43 @@ room c =
 front-room : (c : tie.Start) → c.args.at + length (front c) ≤ length c.args.out.now
 front-room c = fits_first c.args.out.now c.args.at (front c) (back c) (room c)
 
-front-put : (c : tie.After-put-two-then) → Puts c.before.before.before.before.before.before.before.before.args.out.now c.before.before.before.before.before.before.before.before.args.at (front c.before.before.before.before.before.before.before.before) c.put-two-then.result c.put-two-then.new.0
+front-put : (c : tie.After-put_two_then-third) → Puts c.args.out.now c.args.at (front c.before.before.before.before.before.before.before.before) c.put_two_then-third.result c.put_two_then-third.new.out
 front-put c =
-    let st = c.before.before.before.before.before.before.before.before in
+    let st = c in
     let a = st.args in
-    let two = rw (to_z-of_z st.ranges.a, to_z-of_z st.ranges.b) at c.put-two-then.ensures in
-    puts_both _ _ a.key.now (two_then a.a a.b comma) (front-room st) _ _ c.before.before.before.before.put-bytes.ensures _ _ two
+    let two = rw (to_z-of_z st.ranges.a, to_z-of_z st.ranges.b) at c.put_two_then-third.ensures in
+    puts_both _ _ a.key.now (two_then a.a a.b comma) (front-room st.before.before.before.before.before.before.before.before) _ _ c.put_bytes-first.ensures _ _ two
 
-put-bytes-requires : tie.Need-put-bytes-requires
-put-bytes-requires c κs =
-    let st = c.before.before.before in
+put_bytes-first-requires : tie.Need-put_bytes-first-requires
+put_bytes-first-requires c κs =
+    let st = c in
     let a = st.args in
-    fits_first a.out.now a.at a.key.now (two_then a.a a.b comma) (front-room st)
+    fits_first a.out.now a.at a.key.now (two_then a.a a.b comma) (front-room st.before.before.before)
 
-put-two-then-requires : tie.Need-put-two-then-requires
-put-two-then-requires c κs =
-    let st = c.before.before.before.before.before.before.before in
+put_two_then-third-requires : tie.Need-put_two_then-third-requires
+put_two_then-third-requires c κs =
+    let st = c in
     let a = st.args in
-    let fits = fits_next _ _ a.key.now (two_then a.a a.b comma) (front-room st) _ _ c.before.before.before.put-bytes.ensures in
+    let fits = fits_next _ _ a.key.now (two_then a.a a.b comma) (front-room st.before.before.before.before.before.before.before) _ _ c.put_bytes-first.ensures in
     rw (to_z-of_z st.ranges.a, to_z-of_z st.ranges.b) (st.requires.0, st.requires.1, fits)
 
-put-two-then-requires-2 : tie.Need-put-two-then-requires-2
-put-two-then-requires-2 c κs =
-    let st = c.before.before.before.before.before.before.before.before.before.before.before in
-    let fits = fits_next _ _ (front st) (back st) (room st) _ _ (front-put c.before.before.before) in
+put_two_then-requires : tie.Need-put_two_then-requires
+put_two_then-requires c κs =
+    let st = c in
+    let fits = fits_next _ _ (front st.before.before.before.before.before.before.before.before.before.before.before) (back st.before.before.before.before.before.before.before.before.before.before.before) (room st.before.before.before.before.before.before.before.before.before.before.before) _ _ (front-put c.before.before.before) in
     rw (to_z-of_z st.ranges.c, to_z-of_z st.ranges.d) (st.requires.2, st.requires.3, fits)
 
-same_length : tie.Need-same-length
-same_length c = search rules
+shape_of-out : tie.Need-shape_of-out
+shape_of-out c = search rules
 
 returns : tie.Need-returns
 returns c =
-    let st = c.before.before.before.before.before.before.before.before.before.before.before.before.before.before in
+    let st = c in
     let a = st.args in
-    let two = rw (to_z-of_z st.ranges.c, to_z-of_z st.ranges.d) at c.before.before.put-two-then2.ensures in
-    rw (line4_is a.key.now a.a a.b a.c a.d) (puts_both _ _ (front st) (back st) (room st) _ _ (front-put c.before.before.before.before.before.before) _ _ two)
+    let two = rw (to_z-of_z st.ranges.c, to_z-of_z st.ranges.d) at c.put_two_then.ensures in
+    rw (line4_is a.key.now a.a a.b a.c a.d) (puts_both _ _ (front st.before.before.before.before.before.before.before.before.before.before.before.before.before.before) (back st.before.before.before.before.before.before.before.before.before.before.before.before.before.before) (room st.before.before.before.before.before.before.before.before.before.before.before.before.before.before) _ _ (front-put c.before.before.before.before.before.before) _ _ two)
 
-pub put-line4-spec : {M : Type 1} → statement M
-put-line4-spec =
+pub put_line4_spec : {M : Type 1} → statement M
+put_line4_spec =
     tie.close
-    (tie.spec put-bytes-requires put-two-then-requires put-two-then-requires-2 same_length returns)
+    (tie.spec put_bytes-first-requires put_two_then-third-requires put_two_then-requires shape_of-out returns)

@@ -12,60 +12,60 @@ use Rattle.formats.proofs.write.put_number.Statement.{statement}
 use Rattle.formats.proofs.write.put_number.Tie as tie
 
 -- the magnitude, and the spelling by the sign
-abbrev number : tie.After-magnitude → ℤ
-number c = c.before.before.args.z
+abbrev number : tie.After-magnitude-mag → ℤ
+number c = c.args.z
 
-mag_is : (c : tie.After-magnitude) → c.magnitude.result ≡ nat_abs (number c)
-mag_is c = c.magnitude.ensures ∙ ap nat_abs (to_z-of_z c.before.before.ranges.z)
+mag_is : (c : tie.After-magnitude-mag) → c.magnitude-mag.result ≡ nat_abs (number c)
+mag_is c = c.magnitude-mag.ensures ∙ ap nat_abs (to_z-of_z c.ranges.z)
 
-minus : (c : tie.Then1) → show (number c.before) ≡ 45 ∷ show_nat (nat_abs (number c.before))
-minus c = show_minus (number c.before) (rw (to_z-of_z c.before.before.before.ranges.z) at c.if1.true)
+minus : (c : tie.Then-z-lt0) → show (number c.before) ≡ 45 ∷ show_nat (nat_abs (number c.before))
+minus c = show_minus (number c.before) (rw (to_z-of_z c.ranges.z) at c.if-z-lt0.true)
 
-plain : (c : tie.Else1) → show (number c.before) ≡ show_nat (nat_abs (number c.before))
-plain c = show_plain (number c.before) (rw (to_z-of_z c.before.before.before.ranges.z) at c.if1.false)
+plain : (c : tie.Else-z-lt0) → show (number c.before) ≡ show_nat (nat_abs (number c.before))
+plain c = show_plain (number c.before) (rw (to_z-of_z c.ranges.z) at c.if-z-lt0.false)
 
-magnitude-requires : tie.Need-magnitude-requires
-magnitude-requires c κs = search rules
+magnitude-mag-requires : tie.Need-magnitude-mag-requires
+magnitude-mag-requires c κs = search rules
 
-put-byte-requires : tie.Need-put-byte-requires
-put-byte-requires c κs =
-    let room = rw (minus c.before) at c.before.before.before.before.requires.1 in
+put_byte-next-requires : tie.Need-put_byte-next-requires
+put_byte-next-requires c κs =
+    let room = rw (minus c.before) at c.requires.1 in
     omega arith
 
-put-natural-requires : tie.Need-put-natural-requires
-put-natural-requires c κs =
-    let t = c.before.before.before.before.before in
-    let room = rw (minus t) at t.before.before.before.requires.1 in
-    rw (mag_is t.before) (fits_next _ _ (45 ∷ []) (show_nat (nat_abs (number t.before))) room _ _ c.before.before.before.put_byte.ensures)
+put_natural-requires : tie.Need-put_natural-requires
+put_natural-requires c κs =
+    let t = c in
+    let room = rw (minus t.before.before.before.before.before) at t.requires.1 in
+    rw (mag_is t.before.before.before.before.before.before) (fits_next _ _ (45 ∷ []) (show_nat (nat_abs (number t.before.before.before.before.before.before))) room _ _ c.put_byte-next.ensures)
 
-same_length : tie.Need-same-length
-same_length c = search rules
+shape_of-out-then-z-lt0 : tie.Need-shape_of-out-then-z-lt0
+shape_of-out-then-z-lt0 c = search rules
+
+returns-then-z-lt0 : tie.Need-returns-then-z-lt0
+returns-then-z-lt0 c =
+    let t = c in
+    let room = rw (minus t.before.before.before.before.before.before.before.before) at t.requires.1 in
+    let digits = rw (mag_is t.before.before.before.before.before.before.before.before.before) at c.put_natural.ensures in
+    rw (minus t.before.before.before.before.before.before.before.before) (puts_both _ _ (45 ∷ []) _ room _ _ c.put_byte-next.ensures _ _ digits)
+
+put_natural-requires-2 : tie.Need-put_natural-requires-2
+put_natural-requires-2 c κs = rw (mag_is c.before.before) (rw (plain c.before) at c.requires.1)
+
+shape_of-out : tie.Need-shape_of-out
+shape_of-out c = search rules
 
 returns : tie.Need-returns
-returns c =
-    let t = c.before.before.before.before.before.before.before.before in
-    let room = rw (minus t) at t.before.before.before.requires.1 in
-    let digits = rw (mag_is t.before) at c.before.before.put-natural.ensures in
-    rw (minus t) (puts_both _ _ (45 ∷ []) _ room _ _ c.before.before.before.before.before.before.put_byte.ensures _ _ digits)
+returns c = rw (plain c.before.before.before.before) (rw (mag_is c.before.before.before.before.before) at c.put_natural-2.ensures)
 
-put-natural-requires-2 : tie.Need-put-natural-requires-2
-put-natural-requires-2 c κs = rw (mag_is c.before.before) (rw (plain c.before) at c.before.before.before.before.requires.1)
-
-same-length-2 : tie.Need-same-length-2
-same-length-2 c = search rules
-
-returns-2 : tie.Need-returns-2
-returns-2 c = rw (plain c.before.before.before.before) (rw (mag_is c.before.before.before.before.before) at c.before.before.put-natural2.ensures)
-
-pub put-number-spec : {M : Type 1} → statement M
-put-number-spec =
+pub put_number_spec : {M : Type 1} → statement M
+put_number_spec =
     tie.close
     (tie.spec
-    magnitude-requires
-    put-byte-requires
-    put-natural-requires
-    same_length
-    returns
-    put-natural-requires-2
-    same-length-2
-    returns-2)
+    magnitude-mag-requires
+    put_byte-next-requires
+    put_natural-requires
+    shape_of-out-then-z-lt0
+    returns-then-z-lt0
+    put_natural-requires-2
+    shape_of-out
+    returns)

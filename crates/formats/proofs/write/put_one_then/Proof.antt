@@ -8,27 +8,27 @@ use Rattle.formats.proofs.Laws.Writing.{fits_first, fits_next, puts_both}
 use Rattle.formats.proofs.write.put_one_then.Statement.{statement}
 use Rattle.formats.proofs.write.put_one_then.Tie as tie
 
-put-number-requires : tie.Need-put-number-requires
-put-number-requires c κs =
-    let st = c.before.before in
+put_number-next-requires : tie.Need-put_number-next-requires
+put_number-next-requires c κs =
+    let st = c in
     let a = st.args in
     rw (to_z-of_z st.ranges.a) (st.requires.0, fits_first a.out.now a.at (show a.a) (a.stop ∷ []) st.requires.1)
 
-put-byte-requires : tie.Need-put-byte-requires
-put-byte-requires c κs =
-    let st = c.before.before.before.before.before.before in
-    let first = rw (to_z-of_z st.ranges.a) at c.before.before.before.put-number.ensures in
+put_byte-requires : tie.Need-put_byte-requires
+put_byte-requires c κs =
+    let st = c in
+    let first = rw (to_z-of_z st.ranges.a) at c.put_number-next.ensures in
     let next = fits_next _ _ (show st.args.a) (st.args.stop ∷ []) st.requires.1 _ _ first in
     omega arith
 
-same_length : tie.Need-same-length
-same_length c = search rules
+shape_of-out : tie.Need-shape_of-out
+shape_of-out c = search rules
 
 returns : tie.Need-returns
 returns c =
-    let st = c.before.before.before.before.before.before.before.before.before in
-    let first = rw (to_z-of_z st.ranges.a) at c.before.before.before.before.before.before.put-number.ensures in
-    puts_both _ _ (show st.args.a) (st.args.stop ∷ []) st.requires.1 _ _ first _ _ c.before.before.put_byte.ensures
+    let st = c in
+    let first = rw (to_z-of_z st.ranges.a) at c.put_number-next.ensures in
+    puts_both _ _ (show st.args.a) (st.args.stop ∷ []) st.requires.1 _ _ first _ _ c.put_byte.ensures
 
-pub put-one-then-spec : {M : Type 1} → statement M
-put-one-then-spec = tie.close (tie.spec put-number-requires put-byte-requires same_length returns)
+pub put_one_then_spec : {M : Type 1} → statement M
+put_one_then_spec = tie.close (tie.spec put_number-next-requires put_byte-requires shape_of-out returns)

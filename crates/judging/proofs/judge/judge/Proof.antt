@@ -5,11 +5,11 @@ use borrow.Author.Rules.{rules}
 use Rattle.judging.proofs.judge.judge.Statement.{statement}
 use Rattle.judging.proofs.judge.judge.Tie as tie
 
-judge-texts-requires : tie.Need-judge-texts-requires
-judge-texts-requires c κs = search rules
+judge_texts-requires : tie.Need-judge_texts-requires
+judge_texts-requires c κs = search rules
 
 returns : tie.Need-returns
-returns c = c.judge-texts.ensures ∙ judged_full _
+returns c = c.judge_texts.ensures ∙ judged_full _
 
-pub judge-spec : {M : Type 1} → statement M
-judge-spec = tie.close (tie.spec judge-texts-requires returns)
+pub judge_spec : {M : Type 1} → statement M
+judge_spec = tie.close (tie.spec judge_texts-requires returns)

@@ -5,21 +5,21 @@ use borrow.Author.Rules.{rules}
 use Rattle.judging.proofs.judge.judge_measures.Statement.{statement}
 use Rattle.judging.proofs.judge.judge_measures.Tie as tie
 
-judge-texts-requires : tie.Need-judge-texts-requires
-judge-texts-requires c κs = search rules
+judge_texts-requires : tie.Need-judge_texts-requires
+judge_texts-requires c κs = search rules
 
-enum-known-slack : tie.Need-enum-known-slack
-enum-known-slack c = search rules
+enum_known-slack : tie.Need-enum_known-slack
+enum_known-slack c = search rules
 
-enum-known-refusal : tie.Need-enum-known-refusal
-enum-known-refusal c = search rules
+enum_known-refusal : tie.Need-enum_known-refusal
+enum_known-refusal c = search rules
 
-returns : tie.Need-returns
-returns c = ap measures_of (sym c.before.slack.given.1 ∙ c.before.before.before.judge-texts.ensures) ∙ measures_told _
+returns-in-Judged : tie.Need-returns-in-Judged
+returns-in-Judged c = ap measures_of (sym c.slack-1.given.1 ∙ c.judge_texts.ensures) ∙ measures_told _
 
-returns-2 : tie.Need-returns-2
-returns-2 c = ap measures_of (sym c.before.refusal.given.1 ∙ c.before.before.before.judge-texts.ensures) ∙ measures_told _
+returns-in-JudgeRefused : tie.Need-returns-in-JudgeRefused
+returns-in-JudgeRefused c = ap measures_of (sym c.refusal-1.given.1 ∙ c.judge_texts.ensures) ∙ measures_told _
 
-pub judge-measures-spec : {M : Type 1} → statement M
-judge-measures-spec =
-    tie.close (tie.spec judge-texts-requires enum-known-slack enum-known-refusal returns returns-2)
+pub judge_measures_spec : {M : Type 1} → statement M
+judge_measures_spec =
+    tie.close (tie.spec judge_texts-requires enum_known-slack enum_known-refusal returns-in-Judged returns-in-JudgeRefused)

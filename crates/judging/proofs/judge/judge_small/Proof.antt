@@ -4,53 +4,53 @@ use borrow.Author.Rules.{rules}
 use Rattle.judging.proofs.judge.judge_small.Statement.{statement}
 use Rattle.judging.proofs.judge.judge_small.Tie as tie
 
-slice-aggregate-judge-rest : tie.Need-slice-aggregate-judge-rest
-slice-aggregate-judge-rest c = search rules
+slice_bounds-judge_rest-end : tie.Need-slice_bounds-judge_rest-end
+slice_bounds-judge_rest-end c = search rules
 
-slice-aggregate-judge-rest-2 : tie.Need-slice-aggregate-judge-rest-2
-slice-aggregate-judge-rest-2 c = search rules
+slice_bounds-judge_rest-end-2 : tie.Need-slice_bounds-judge_rest-end-2
+slice_bounds-judge_rest-end-2 c = search rules
 
-slice-aggregate-judge-rest-3 : tie.Need-slice-aggregate-judge-rest-3
-slice-aggregate-judge-rest-3 c = search rules
+slice_bounds-judge_rest-end-3 : tie.Need-slice_bounds-judge_rest-end-3
+slice_bounds-judge_rest-end-3 c = search rules
 
-slice-aggregate-judge-rest-4 : tie.Need-slice-aggregate-judge-rest-4
-slice-aggregate-judge-rest-4 c = search rules
+slice_bounds-judge_rest-end-4 : tie.Need-slice_bounds-judge_rest-end-4
+slice_bounds-judge_rest-end-4 c = search rules
 
-slice-aggregate-judge-rest-5 : tie.Need-slice-aggregate-judge-rest-5
-slice-aggregate-judge-rest-5 c = search rules
+slice_bounds-judge_rest-end-5 : tie.Need-slice_bounds-judge_rest-end-5
+slice_bounds-judge_rest-end-5 c = search rules
 
-slice-aggregate-judge-rest-6 : tie.Need-slice-aggregate-judge-rest-6
-slice-aggregate-judge-rest-6 c = search rules
+slice_bounds-judge_rest-end-6 : tie.Need-slice_bounds-judge_rest-end-6
+slice_bounds-judge_rest-end-6 c = search rules
 
-slice-aggregate-judge-rest-7 : tie.Need-slice-aggregate-judge-rest-7
-slice-aggregate-judge-rest-7 c = search rules
+slice_bounds-judge_rest-end-7 : tie.Need-slice_bounds-judge_rest-end-7
+slice_bounds-judge_rest-end-7 c = search rules
 
-slice-aggregate-judge-rest-8 : tie.Need-slice-aggregate-judge-rest-8
-slice-aggregate-judge-rest-8 c = search rules
+slice_bounds-judge_rest-end-8 : tie.Need-slice_bounds-judge_rest-end-8
+slice_bounds-judge_rest-end-8 c = search rules
 
-slice-aggregate-judge-rest-9 : tie.Need-slice-aggregate-judge-rest-9
-slice-aggregate-judge-rest-9 c = search rules
+slice_bounds-judge_rest-end-9 : tie.Need-slice_bounds-judge_rest-end-9
+slice_bounds-judge_rest-end-9 c = search rules
 
-judge-rest-requires : tie.Need-judge-rest-requires
-judge-rest-requires c κs =
-    let p = c.before.before.before.before.before.before.before.before.before.before.before.requires in
+judge_rest-requires : tie.Need-judge_rest-requires
+judge_rest-requires c κs =
+    let p = c.requires in
     ((p.0, (omega (arith, p.1.0), p.1.1, p.1.2, p.1.3)), omega (arith, p.1.0))
 
 returns : tie.Need-returns
 returns c = search rules
 
-pub judge-small-spec : {M : Type 1} → statement M
-judge-small-spec =
+pub judge_small_spec : {M : Type 1} → statement M
+judge_small_spec =
     tie.close
     (tie.spec
-    slice-aggregate-judge-rest
-    slice-aggregate-judge-rest-2
-    slice-aggregate-judge-rest-3
-    slice-aggregate-judge-rest-4
-    slice-aggregate-judge-rest-5
-    slice-aggregate-judge-rest-6
-    slice-aggregate-judge-rest-7
-    slice-aggregate-judge-rest-8
-    slice-aggregate-judge-rest-9
-    judge-rest-requires
+    slice_bounds-judge_rest-end
+    slice_bounds-judge_rest-end-2
+    slice_bounds-judge_rest-end-3
+    slice_bounds-judge_rest-end-4
+    slice_bounds-judge_rest-end-5
+    slice_bounds-judge_rest-end-6
+    slice_bounds-judge_rest-end-7
+    slice_bounds-judge_rest-end-8
+    slice_bounds-judge_rest-end-9
+    judge_rest-requires
     returns)

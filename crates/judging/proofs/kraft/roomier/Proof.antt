@@ -15,28 +15,28 @@ at s = let a = s.args in worst_if_split a.worst.0 a.branch.0 a.slacks.now a.u
 abbrev other : tie.Start → ℤ
 other s = s.args.best.worst.0
 
-larger : (c : tie.After-is-less) → c.is-less.result ≡ lt_z (other c.before.before.before) (at c.before.before.before)
-larger c = c.is-less.ensures ∙ ap (lt_z (other c.before.before.before)) c.before.worst-if-split.ensures
+larger : (c : tie.After-is_less) → c.is_less.result ≡ lt_z (other c.before.before.before) (at c.before.before.before)
+larger c = c.is_less.ensures ∙ ap (lt_z (other c.before.before.before)) c.worst_if_split-next.ensures
 
-worst-if-split-requires : tie.Need-worst-if-split-requires
-worst-if-split-requires c κs = search rules
+worst_if_split-next-requires : tie.Need-worst_if_split-next-requires
+worst_if_split-next-requires c κs = search rules
 
-is-less-requires : tie.Need-is-less-requires
-is-less-requires c κs = search rules
+is_less-requires : tie.Need-is_less-requires
+is_less-requires c κs = search rules
+
+returns-then-is_less : tie.Need-returns-then-is_less
+returns-then-is_less c =
+    let s = c in
+    let a = s.args in
+    let e : lt_z (other s.before.before.before.before) (at s.before.before.before.before) ≡ true = sym (larger c.before) ∙ c.if-is_less.true in
+    (sym (ap (λ (t : Bool). cond t a.u a.best.sink) e), c.worst_if_split-next.ensures ∙ sym (ap (λ (t : Bool). cond t (at s.before.before.before.before) (other s.before.before.before.before)) e))
 
 returns : tie.Need-returns
 returns c =
-    let s = c.before.before.before.before in
+    let s = c in
     let a = s.args in
-    let e : lt_z (other s) (at s) ≡ true = sym (larger c.before) ∙ c.if1.true in
-    (sym (ap (λ (t : Bool). cond t a.u a.best.sink) e), c.before.before.worst-if-split.ensures ∙ sym (ap (λ (t : Bool). cond t (at s) (other s)) e))
+    let e : lt_z (other s.before.before.before.before) (at s.before.before.before.before) ≡ false = sym (larger c.before) ∙ c.if-is_less.false in
+    (sym (ap (λ (t : Bool). cond t a.u a.best.sink) e), sym (ap (λ (t : Bool). cond t (at s.before.before.before.before) (other s.before.before.before.before)) e))
 
-returns-2 : tie.Need-returns-2
-returns-2 c =
-    let s = c.before.before.before.before in
-    let a = s.args in
-    let e : lt_z (other s) (at s) ≡ false = sym (larger c.before) ∙ c.if1.false in
-    (sym (ap (λ (t : Bool). cond t a.u a.best.sink) e), sym (ap (λ (t : Bool). cond t (at s) (other s)) e))
-
-pub roomier-spec : {M : Type 1} → statement M
-roomier-spec = tie.close (tie.spec worst-if-split-requires is-less-requires returns returns-2)
+pub roomier_spec : {M : Type 1} → statement M
+roomier_spec = tie.close (tie.spec worst_if_split-next-requires is_less-requires returns-then-is_less returns)

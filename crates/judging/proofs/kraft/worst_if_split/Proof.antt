@@ -10,31 +10,31 @@ use borrow.Author.Rules.{rules}
 use Rattle.judging.proofs.kraft.worst_if_split.Statement.{statement}
 use Rattle.judging.proofs.kraft.worst_if_split.Tie as tie
 
-mul-of : tie.Need-overflow-mul-of
-mul-of c = search rules
+offset_bounds-slacks-u : tie.Need-offset_bounds-slacks-u
+offset_bounds-slacks-u c = search rules
 
-shared-slice-copy-out-of : tie.Need-shared-slice-copy-out-of
-shared-slice-copy-out-of c = search rules
+bounds-slacks-u : tie.Need-bounds-slacks-u
+bounds-slacks-u c = search rules
 
 of-requires : tie.Need-of-requires
 of-requires c κs = search rules
 
 -- the slack, as it was read
-read : (c : tie.After-of) → c.of.result.0 ≡ get_or c.before.before.args.slacks.now c.before.before.args.u (pos 0)
-read c = let a = c.before.before.args in c.of.ensures ∙ to_z-of_z (fit (get_or a.slacks.now a.u (pos 0)) c.before.of-arg.given)
+read : (c : tie.After-of) → c.of.result.0 ≡ get_or c.args.slacks.now c.args.u (pos 0)
+read c = let a = c.args in c.of.ensures ∙ to_z-of_z (fit (get_or a.slacks.now a.u (pos 0)) c.of-arg-1.given)
 
 minus-requires : tie.Need-minus-requires
-minus-requires c κs = let p = c.before.before.requires in omega (arith, whole, read c)
+minus-requires c κs = let p = c.requires in omega (arith, whole, read c)
 
 least-requires : tie.Need-least-requires
 least-requires c κs = search rules
 
 returns : tie.Need-returns
 returns c =
-    let a = c.before.before.before.before.args in
-    c.least.ensures ∙ ap (min_ℤ a.worst.0) (c.before.minus.ensures ∙ ap (λ (z : ℤ). z -ℤ a.branch.0) (read c.before.before))
+    let a = c.args in
+    c.least.ensures ∙ ap (min_ℤ a.worst.0) (c.minus.ensures ∙ ap (λ (z : ℤ). z -ℤ a.branch.0) (read c.before.before))
 
-pub worst-if-split-spec : {M : Type 1} → statement M
-worst-if-split-spec =
+pub worst_if_split_spec : {M : Type 1} → statement M
+worst_if_split_spec =
     tie.close
-    (tie.spec mul-of shared-slice-copy-out-of of-requires minus-requires least-requires returns)
+    (tie.spec offset_bounds-slacks-u bounds-slacks-u of-requires minus-requires least-requires returns)

@@ -14,114 +14,114 @@ use Rattle.judging.proofs.Laws.SinkArrays.{some_sink, sink_in, first_kept, worst
 use Rattle.judging.proofs.kraft.worst_of_all.Statement.{statement}
 use Rattle.judging.proofs.kraft.worst_of_all.Tie as tie
 
-abbrev invariant-loop : tie.invariant-loop
-invariant-loop n own sinks slacks₀ branch first worst₀ k₀ slacks worst k =
+abbrev invariant-loop-k : tie.invariant-loop-k
+invariant-loop-k n own sinks slacks₀ branch first worst₀ k₀ slacks worst k =
     (k < n) × (length slacks ≡ length slacks₀) × ((N : Net) → SinksReady N branch.0 n own sinks → Kept N (sinks_in N k) slacks worst.0)
 
-abbrev decreases-loop : tie.decreases-loop
-decreases-loop n own sinks slacks₀ branch first worst₀ k₀ slacks worst k = n - k
+abbrev decreases-loop-k : tie.decreases-loop-k
+decreases-loop-k n own sinks slacks₀ branch first worst₀ k₀ slacks worst k = n - k
 
-absent-all-requires : tie.Need-absent-all-requires invariant-loop decreases-loop
-absent-all-requires c κs = omega arith
+absent_all-requires : tie.Need-absent_all-requires invariant-loop-k decreases-loop-k
+absent_all-requires c κs = omega arith
 
-shared-slice-read-first : tie.Need-shared-slice-read-first invariant-loop decreases-loop
-shared-slice-read-first c = let A = c.before.before.before.before.before.requires.0.1 in omega (arith, some_sink A)
+bounds-sinks-0 : tie.Need-bounds-sinks-0 invariant-loop-k decreases-loop-k
+bounds-sinks-0 c = let A = c.requires.0.1 in omega (arith, some_sink A)
 
-mul-slacks : tie.Need-overflow-mul-slacks invariant-loop decreases-loop
-mul-slacks c = let A = c.before.before.before.before.before.requires.0.1 in omega (arith, sink_in A 0 (some_sink A).0)
+offset_bounds-own-first : tie.Need-offset_bounds-own-first invariant-loop-k decreases-loop-k
+offset_bounds-own-first c = let A = c.requires.0.1 in omega (arith, sink_in A 0 (some_sink A).0)
 
-shared-slice-copy-out-slacks : tie.Need-shared-slice-copy-out-slacks invariant-loop decreases-loop
-shared-slice-copy-out-slacks c = let A = c.before.before.before.before.before.requires.0.1 in omega (arith, sink_in A 0 (some_sink A).0)
+bounds-own-first : tie.Need-bounds-own-first invariant-loop-k decreases-loop-k
+bounds-own-first c = let A = c.requires.0.1 in omega (arith, sink_in A 0 (some_sink A).0)
 
-mul-of : tie.Need-overflow-mul-of invariant-loop decreases-loop
-mul-of c = let A = c.before.before.before.before.before.before.requires.0.1 in omega (arith, sink_in A 0 (some_sink A).0)
+offset_bounds-slacks-first : tie.Need-offset_bounds-slacks-first invariant-loop-k decreases-loop-k
+offset_bounds-slacks-first c = let A = c.requires.0.1 in omega (arith, sink_in A 0 (some_sink A).0)
 
-slice-set-from-of : tie.Need-slice-set-from-of invariant-loop decreases-loop
-slice-set-from-of c = let A = c.before.before.before.before.before.before.requires.0.1 in omega (arith, sink_in A 0 (some_sink A).0)
+bounds-slacks-first : tie.Need-bounds-slacks-first invariant-loop-k decreases-loop-k
+bounds-slacks-first c = let A = c.requires.0.1 in omega (arith, sink_in A 0 (some_sink A).0)
 
-mul-of-2 : tie.Need-overflow-mul-of-2 invariant-loop decreases-loop
-mul-of-2 c = let A = c.before.before.before.before.before.before.requires.0.1 in omega (arith, sink_in A 0 (some_sink A).0)
+offset_bounds-own-first-2 : tie.Need-offset_bounds-own-first-2 invariant-loop-k decreases-loop-k
+offset_bounds-own-first-2 c = let A = c.requires.0.1 in omega (arith, sink_in A 0 (some_sink A).0)
 
-shared-slice-copy-out-of : tie.Need-shared-slice-copy-out-of invariant-loop decreases-loop
-shared-slice-copy-out-of c = let A = c.before.before.before.before.before.before.requires.0.1 in omega (arith, sink_in A 0 (some_sink A).0)
+bounds-own-first-2 : tie.Need-bounds-own-first-2 invariant-loop-k decreases-loop-k
+bounds-own-first-2 c = let A = c.requires.0.1 in omega (arith, sink_in A 0 (some_sink A).0)
 
-of-requires : tie.Need-of-requires invariant-loop decreases-loop
-of-requires c κs = tt
+of-worst-requires : tie.Need-of-worst-requires invariant-loop-k decreases-loop-k
+of-worst-requires c κs = tt
 
-loop-holds : tie.Need-loop-init invariant-loop decreases-loop
-loop-holds c =
-    let s = c.before.before.before.before.before.before.before.before in
+loop-k-init : tie.Need-loop-k-init invariant-loop-k decreases-loop-k
+loop-k-init c =
+    let s = c in
     let a = s.args in
     let first = get_or a.sinks.now 0 0 in
     let mine = get_or a.own.now first (pos 0) in
-    let empty = c.before.before.before.before.before.absent-all in (
+    let empty = c.absent_all in (
       omega (arith, some_sink s.requires.0.1),
       refl,
-      λ N A. subst (Kept N (sinks_in N 0) (set empty.new.0 first (rd mine))) (sym c.of.ensures)
-          (first_kept A empty.new.0 (rd mine) (omega (arith, empty.auto.0)) empty.ensures (to_z-of_z (fit mine c.before.of-arg.given))),
+      λ N A. subst (Kept N (sinks_in N 0) (set empty.new.slacks first (rd mine))) (sym c.of-worst.ensures)
+          (first_kept A empty.new.slacks (rd mine) (omega (arith, empty.auto.slacks)) empty.ensures (to_z-of_z (fit mine c.of-arg-1.given))),
     )
 
-add-loop : tie.Need-overflow-add-loop invariant-loop decreases-loop
-add-loop c = omega arith
+overflow_add-k : tie.Need-overflow_add-k invariant-loop-k decreases-loop-k
+overflow_add-k c = omega arith
 
-next-worst-requires : tie.Need-next-worst-requires invariant-loop decreases-loop
-next-worst-requires c κs =
-    let s = c.before.before.before.before.before.before.before.before.before.before.before in
+next_worst-worst-requires : tie.Need-next_worst-worst-requires invariant-loop-k decreases-loop-k
+next_worst-worst-requires c κs =
+    let s = c in
     let a = s.args in
     let first = get_or a.sinks.now 0 0 in
     let A = s.requires.0.1 in
-    let l = c.before.before.loop in
-    let empty = c.before.before.before.before.before.before.before.before.absent-all in
-    ((s.requires.0.0, (A, l.invariant.2 s.requires.0.0 A)), omega (arith, l.invariant.1, empty.auto.0, length-set empty.new.0 first (rd (get_or a.own.now first (pos 0)))))
+    let l = c.loop-k in
+    let empty = c.absent_all in
+    ((s.requires.0.0, (A, l.invariant.2 s.requires.0.0 A)), omega (arith, l.invariant.1, empty.auto.slacks, length-set empty.new.slacks first (rd (get_or a.own.now first (pos 0)))))
 
-add-k : tie.Need-overflow-add-k invariant-loop decreases-loop
-add-k c = omega arith
+overflow_add-k-in-loop-k : tie.Need-overflow_add-k-in-loop-k invariant-loop-k decreases-loop-k
+overflow_add-k-in-loop-k c = omega arith
 
-loop-less : tie.Need-loop-smaller invariant-loop decreases-loop
-loop-less c = omega arith
+loop-k-smaller : tie.Need-loop-k-smaller invariant-loop-k decreases-loop-k
+loop-k-smaller c = omega arith
 
-loop-again : tie.Need-loop-preserved invariant-loop decreases-loop
-loop-again c =
-    let l = c.before.before.before.before.loop in
-    let r = c.before.next-worst in (
+loop-k-preserved : tie.Need-loop-k-preserved invariant-loop-k decreases-loop-k
+loop-k-preserved c =
+    let l = c.loop-k in
+    let r = c.next_worst-worst in (
       omega arith,
-      r.auto.1.1.1.1.0 ∙ l.invariant.1,
-      λ N A. subst (λ (j : ℕ). Kept N (sinks_in N j) r.new.1.1.1.1.0 r.result.0) (sym (add-one l.k)) (r.ensures N A (l.invariant.2 N A)),
+      r.auto.slacks ∙ l.invariant.1,
+      λ N A. subst (λ (j : ℕ). Kept N (sinks_in N j) r.new.slacks r.result.0) (sym (add-one l.k)) (r.ensures N A (l.invariant.2 N A)),
     )
 
-same_length : tie.Need-same-length invariant-loop decreases-loop
-same_length c =
-    let a = c.before.before.before.before.before.before.before.before.before.before.args in
+shape_of-slacks : tie.Need-shape_of-slacks invariant-loop-k decreases-loop-k
+shape_of-slacks c =
+    let a = c.args in
     let first = get_or a.sinks.now 0 0 in
-    let empty = c.before.before.before.before.before.before.before.absent-all in
-    c.before.loop.invariant.1 ∙ length-set empty.new.0 first (rd (get_or a.own.now first (pos 0))) ∙ empty.auto.0
+    let empty = c.absent_all in
+    c.loop-k.invariant.1 ∙ length-set empty.new.slacks first (rd (get_or a.own.now first (pos 0))) ∙ empty.auto.slacks
 
-returns : tie.Need-returns invariant-loop decreases-loop
+returns : tie.Need-returns invariant-loop-k decreases-loop-k
 returns c N A =
-    let l = c.before.loop in
-    let done : c.before.before.before.before.before.before.before.before.before.before.args.n ≡ suc l.k = omega arith in
+    let l = c.loop-k in
+    let done : c.args.n ≡ suc l.k = omega arith in
     worst_maximum A l.k (l.invariant.2 N A) l.invariant.0 done
 
-pub worst-of-all-spec : {M : Type 1} → statement M
-worst-of-all-spec =
+pub worst_of_all_spec : {M : Type 1} → statement M
+worst_of_all_spec =
     tie.close
     (tie.spec
-    invariant-loop
-    decreases-loop
-    absent-all-requires
-    shared-slice-read-first
-    mul-slacks
-    shared-slice-copy-out-slacks
-    mul-of
-    slice-set-from-of
-    mul-of-2
-    shared-slice-copy-out-of
-    of-requires
-    loop-holds
-    add-loop
-    next-worst-requires
-    add-k
-    loop-less
-    loop-again
-    same_length
+    invariant-loop-k
+    decreases-loop-k
+    absent_all-requires
+    bounds-sinks-0
+    offset_bounds-own-first
+    bounds-own-first
+    offset_bounds-slacks-first
+    bounds-slacks-first
+    offset_bounds-own-first-2
+    bounds-own-first-2
+    of-worst-requires
+    loop-k-init
+    overflow_add-k
+    next_worst-worst-requires
+    overflow_add-k-in-loop-k
+    loop-k-smaller
+    loop-k-preserved
+    shape_of-slacks
     returns)

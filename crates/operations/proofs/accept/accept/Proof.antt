@@ -25,113 +25,113 @@ sized : (s : tie.Start) → size (net s) ≡ s.args.n
 sized s = let a = s.args in size_is a.header a.n a.xs.now a.ys.now a.required.now
 
 -- the listing that was read
-abbrev listing : tie.After-slack → Listing
+abbrev listing : tie.In-ListingHeld-2 → Listing
 listing c =
-    let l = c.before.before.before.before.before.before.read-listing.new in
-    listing_held c.slack.given.0.0 c.slack.given.0.1.0 c.before.before.before.before.before.before.before.before.before.before.before.before.before.before.before.args.n l.1.1.0 l.1.1.1.0 l.1.1.1.1.0
+    let l = c.read_listing.new in
+    listing_held c.slack-1.given.0.0 c.slack-1.given.0.1.0 c.args.n l.1.1.0 l.1.1.1.0 l.1.1.1.1.0
 
-read : (c : tie.After-slack) → read_listing c.before.before.before.before.before.before.before.before.before.before.before.before.before.before.before.args.n c.before.before.before.before.before.before.before.before.before.before.before.before.before.before.before.args.listing.now ≡ value (listing c)
-read c = rw c.slack.given.1 at c.before.before.before.before.before.before.read-listing.ensures.0
+read : (c : tie.In-ListingHeld-2) → read_listing c.args.n c.args.listing.now ≡ value (listing c)
+read c = rw c.slack-1.given.1 at c.read_listing.ensures.0
 
-read-listing-requires : tie.Need-read-listing-requires
-read-listing-requires c κs =
-    let s = c.before.before.before.before.before.before.before.before in
+read_listing-requires : tie.Need-read_listing-requires
+read_listing-requires c κs =
+    let s = c in
     let a = s.args in
     let few = some_few a.header a.n a.xs.now a.ys.now a.required.now s.requires.0.0 in
     (few.0, few.1, s.requires.0.1)
 
-enum-known-refusal : tie.Need-enum-known-refusal
-enum-known-refusal c = search rules
+enum_known-refusal : tie.Need-enum_known-refusal
+enum_known-refusal c = search rules
 
-enum-known-slack : tie.Need-enum-known-slack
-enum-known-slack c = search rules
+enum_known-slack : tie.Need-enum_known-slack
+enum_known-slack c = search rules
 
-accept-tree-requires : tie.Need-accept-tree-requires
-accept-tree-requires c κs =
-    let s = c.before.before.before.before.before.before.before.before.before.before.before.before.before.before.before.before.before.before.before.before.before.before.before in
+accept_tree-requires : tie.Need-accept_tree-requires
+accept_tree-requires c κs =
+    let s = c in
     let a = s.args in
-    let d = c.before.before.before.before.before.before.before.before in
-    let r = c.before.before.before.before.before.before.before.before.before.before.before.before.before.before.read-listing in
-    let ps = r.new.1.1.0 in
-    let xs = r.new.1.1.1.0 in
-    let ys = r.new.1.1.1.1.0 in
+    let d = c in
+    let r = c.read_listing in
+    let ps = r.new.parents in
+    let xs = r.new.xs in
+    let ys = r.new.ys in
     let ps-long : 2 * a.n ≤ length ps = omega (arith, r.auto, s.requires.0.1) in
     let xs_long : 2 * a.n ≤ length xs = omega (arith, r.auto, s.requires.0.1) in
     let ys_long : 2 * a.n ≤ length ys = omega (arith, r.auto, s.requires.0.1) in
     let held = s.requires.0.0 in (
       (
         kept_holds a.header a.n a.xs.now a.ys.now a.required.now xs ys r.ensures.1 held xs_long ys_long,
-        read_listing_holds a.header a.n a.xs.now a.ys.now a.required.now xs ys r.ensures.1 held xs_long ys_long ps ps-long (listing d).slack (listing d).wire a.listing.now (read d),
+        read_listing_holds a.header a.n a.xs.now a.ys.now a.required.now xs ys r.ensures.1 held xs_long ys_long ps ps-long (listing d.before.before.before.before.before).slack (listing d.before.before.before.before.before).wire a.listing.now (read d.before.before.before.before.before),
       ),
       s.requires.1,
     )
 
-same_length : tie.Need-same-length
-same_length c = search rules
+shape_of-xs-in-ListingRefused : tie.Need-shape_of-xs-in-ListingRefused
+shape_of-xs-in-ListingRefused c = search rules
 
-same-length-2 : tie.Need-same-length-2
-same-length-2 c = search rules
+shape_of-ys-in-ListingRefused : tie.Need-shape_of-ys-in-ListingRefused
+shape_of-ys-in-ListingRefused c = search rules
 
-same-length-3 : tie.Need-same-length-3
-same-length-3 c = search rules
+shape_of-parents-in-ListingRefused : tie.Need-shape_of-parents-in-ListingRefused
+shape_of-parents-in-ListingRefused c = search rules
 
-returns : tie.Need-returns
-returns c =
-    let s = c.before.before.before.before.before.before.before.before.before.before.before.before.before.before.before.before in
-    let r = c.before.before.before.before.before.before.before.read-listing in
-    (listing_turned (net s) s.args.n s.args.listing.now c.before.refusal.given.0.0 (sized s) (rw c.before.refusal.given.1 at r.ensures.0), r.ensures.1)
+returns-in-ListingRefused : tie.Need-returns-in-ListingRefused
+returns-in-ListingRefused c =
+    let s = c in
+    let r = c.read_listing in
+    (listing_turned (net s.before.before.before.before.before.before.before.before.before.before.before.before.before.before.before.before) s.args.n s.args.listing.now c.refusal-1.given.0.0 (sized s) (rw c.refusal-1.given.1 at r.ensures.0), r.ensures.1)
 
-same-length-4 : tie.Need-same-length-4
-same-length-4 c = search rules
+shape_of-xs-in-ListingHeld : tie.Need-shape_of-xs-in-ListingHeld
+shape_of-xs-in-ListingHeld c = search rules
 
-same-length-5 : tie.Need-same-length-5
-same-length-5 c = search rules
+shape_of-ys-in-ListingHeld : tie.Need-shape_of-ys-in-ListingHeld
+shape_of-ys-in-ListingHeld c = search rules
 
-same-length-6 : tie.Need-same-length-6
-same-length-6 c = search rules
+shape_of-parents-in-ListingHeld : tie.Need-shape_of-parents-in-ListingHeld
+shape_of-parents-in-ListingHeld c = search rules
 
-same-length-7 : tie.Need-same-length-7
-same-length-7 c = search rules
+shape_of-first : tie.Need-shape_of-first
+shape_of-first c = search rules
 
-same-length-8 : tie.Need-same-length-8
-same-length-8 c = search rules
+shape_of-second : tie.Need-shape_of-second
+shape_of-second c = search rules
 
-same-length-9 : tie.Need-same-length-9
-same-length-9 c = search rules
+shape_of-queue : tie.Need-shape_of-queue
+shape_of-queue c = search rules
 
-same-length-10 : tie.Need-same-length-10
-same-length-10 c = search rules
+shape_of-slacks : tie.Need-shape_of-slacks
+shape_of-slacks c = search rules
 
-returns-2 : tie.Need-returns-2
-returns-2 c =
-    let s = c.before.before.before.before.before.before.before.before.before.before.before.before.before.before.before.before.before.before.before.before.before.before.before.before.before.before.before.before.before.before.before in
+returns-in-ListingHeld : tie.Need-returns-in-ListingHeld
+returns-in-ListingHeld c =
+    let s = c in
     let a = s.args in
-    let d = c.before.before.before.before.before.before.before.before.before.before.before.before.before.before.before.before in
-    let r = c.before.before.before.before.before.before.before.before.before.before.before.before.before.before.before.before.before.before.before.before.before.before.read-listing in
-    let xs = r.new.1.1.1.0 in
-    let ys = r.new.1.1.1.1.0 in (
-      tree_accepted (net s) (net_of a.header a.n xs ys a.required.now) a.n a.listing.now (listing d) (sized s) (read d)
-          (kept_net a.header a.n a.xs.now a.ys.now a.required.now xs ys r.ensures.1) _ c.before.before.before.before.before.before.before.accept-tree.ensures,
+    let d = c in
+    let r = c.read_listing in
+    let xs = r.new.xs in
+    let ys = r.new.ys in (
+      tree_accepted (net s.before.before.before.before.before.before.before.before.before.before.before.before.before.before.before.before.before.before.before.before.before.before.before.before.before.before.before.before) (net_of a.header a.n xs ys a.required.now) a.n a.listing.now (listing d.before.before.before.before.before.before.before.before.before.before.before.before.before) (sized s) (read d.before.before.before.before.before.before.before.before.before.before.before.before.before)
+          (kept_net a.header a.n a.xs.now a.ys.now a.required.now xs ys r.ensures.1) _ c.accept_tree.ensures,
       r.ensures.1,
     )
 
-pub accept-spec : {M : Type 1} → statement M
-accept-spec =
+pub accept_spec : {M : Type 1} → statement M
+accept_spec =
     tie.close
     (tie.spec
-    read-listing-requires
-    enum-known-refusal
-    enum-known-slack
-    accept-tree-requires
-    same_length
-    same-length-2
-    same-length-3
-    returns
-    same-length-4
-    same-length-5
-    same-length-6
-    same-length-7
-    same-length-8
-    same-length-9
-    same-length-10
-    returns-2)
+    read_listing-requires
+    enum_known-refusal
+    enum_known-slack
+    accept_tree-requires
+    shape_of-xs-in-ListingRefused
+    shape_of-ys-in-ListingRefused
+    shape_of-parents-in-ListingRefused
+    returns-in-ListingRefused
+    shape_of-xs-in-ListingHeld
+    shape_of-ys-in-ListingHeld
+    shape_of-parents-in-ListingHeld
+    shape_of-first
+    shape_of-second
+    shape_of-queue
+    shape_of-slacks
+    returns-in-ListingHeld)

@@ -13,50 +13,50 @@ use Rattle.operations.proofs.accept.accept_stated.Statement.{statement}
 use Rattle.operations.proofs.accept.accept_stated.Tie as tie
 
 -- the net and the listing
-abbrev net : tie.After-measure-tree → Net
-net c = let a = c.before.before.before.before.args in net_of a.header a.n a.xs.now a.ys.now a.required.now
+abbrev net : tie.After-measure_tree-tally → Net
+net c = let a = c.args in net_of a.header a.n a.xs.now a.ys.now a.required.now
 
-abbrev listing : tie.After-measure-tree → Listing
-listing c = let a = c.before.before.before.before.args in listing_held a.slack a.wire a.n a.parents.now a.xs.now a.ys.now
+abbrev listing : tie.After-measure_tree-tally → Listing
+listing c = let a = c.args in listing_held a.slack a.wire a.n a.parents.now a.xs.now a.ys.now
 
 -- the stated slack is the measured one
-same_slack : (c : tie.Else1) → (le_z (listing c.before.before.before.before.before).slack c.before.before.before.before.before.measure-tree.result.worst.0 && le_z c.before.before.before.before.before.measure-tree.result.worst.0 (listing c.before.before.before.before.before).slack) ≡ true
-same_slack c = sym c.before.is_same.ensures ∙ not-false _ c.if1.false
+same_slack : (c : tie.Else-not-is_same) → (le_z (listing c.before.before.before.before.before).slack c.measure_tree-tally.result.worst.0 && le_z c.measure_tree-tally.result.worst.0 (listing c.before.before.before.before.before).slack) ≡ true
+same_slack c = sym c.is_same.ensures ∙ not-false _ c.if-not-is_same.false
 
-measure-tree-requires : tie.Need-measure-tree-requires
-measure-tree-requires c κs = search rules
+measure_tree-tally-requires : tie.Need-measure_tree-tally-requires
+measure_tree-tally-requires c κs = search rules
 
-is-same-requires : tie.Need-is-same-requires
-is-same-requires c κs = search rules
+is_same-requires : tie.Need-is_same-requires
+is_same-requires c κs = search rules
 
-same_length : tie.Need-same-length
-same_length c = search rules
+shape_of-slacks-then-not-is_same : tie.Need-shape_of-slacks-then-not-is_same
+shape_of-slacks-then-not-is_same c = search rules
+
+returns-then-not-is_same : tie.Need-returns-then-not-is_same
+returns-then-not-is_same c =
+    let m = c in
+    slack_other (net m.before.before.before.before.before) (listing m.before.before.before.before.before) m.measure_tree-tally.result.worst.0 m.measure_tree-tally.result.wire.0 m.measure_tree-tally.ensures.0 m.measure_tree-tally.ensures.1 (sym c.is_same.ensures ∙ not-true _ c.if-not-is_same.true)
+
+is_same-requires-2 : tie.Need-is_same-requires-2
+is_same-requires-2 c κs = search rules
+
+shape_of-slacks-then-not-is_same-2 : tie.Need-shape_of-slacks-then-not-is_same-2
+shape_of-slacks-then-not-is_same-2 c = search rules
+
+returns-then-not-is_same-2 : tie.Need-returns-then-not-is_same-2
+returns-then-not-is_same-2 c =
+    let m = c in
+    wire_other (net m.before.before.before.before.before.before.before) (listing m.before.before.before.before.before.before.before) m.measure_tree-tally.result.worst.0 m.measure_tree-tally.result.wire.0 m.measure_tree-tally.ensures.0 m.measure_tree-tally.ensures.1 (same_slack c.before.before) (sym c.is_same-2.ensures ∙ not-true _ c.if-not-is_same-2.true)
+
+shape_of-slacks : tie.Need-shape_of-slacks
+shape_of-slacks c = search rules
 
 returns : tie.Need-returns
 returns c =
-    let m = c.before.before.before.before.before in
-    slack_other (net m) (listing m) m.measure-tree.result.worst.0 m.measure-tree.result.wire.0 m.measure-tree.ensures.0 m.measure-tree.ensures.1 (sym c.before.is_same.ensures ∙ not-true _ c.if1.true)
+    let m = c in
+    wire_same (net m.before.before.before.before.before.before.before) (listing m.before.before.before.before.before.before.before) m.measure_tree-tally.result.worst.0 m.measure_tree-tally.result.wire.0 m.measure_tree-tally.ensures.0 m.measure_tree-tally.ensures.1 (same_slack c.before.before) (sym c.is_same-2.ensures ∙ not-false _ c.if-not-is_same-2.false)
 
-is-same-requires-2 : tie.Need-is-same-requires-2
-is-same-requires-2 c κs = search rules
-
-same-length-2 : tie.Need-same-length-2
-same-length-2 c = search rules
-
-returns-2 : tie.Need-returns-2
-returns-2 c =
-    let m = c.before.before.before.before.before.before.before in
-    wire_other (net m) (listing m) m.measure-tree.result.worst.0 m.measure-tree.result.wire.0 m.measure-tree.ensures.0 m.measure-tree.ensures.1 (same_slack c.before.before) (sym c.before.is-same2.ensures ∙ not-true _ c.if2.true)
-
-same-length-3 : tie.Need-same-length-3
-same-length-3 c = search rules
-
-returns-3 : tie.Need-returns-3
-returns-3 c =
-    let m = c.before.before.before.before.before.before.before in
-    wire_same (net m) (listing m) m.measure-tree.result.worst.0 m.measure-tree.result.wire.0 m.measure-tree.ensures.0 m.measure-tree.ensures.1 (same_slack c.before.before) (sym c.before.is-same2.ensures ∙ not-false _ c.if2.false)
-
-pub accept-stated-spec : {M : Type 1} → statement M
-accept-stated-spec =
+pub accept_stated_spec : {M : Type 1} → statement M
+accept_stated_spec =
     tie.close
-    (tie.spec measure-tree-requires is-same-requires same_length returns is-same-requires-2 same-length-2 returns-2 same-length-3 returns-3)
+    (tie.spec measure_tree-tally-requires is_same-requires shape_of-slacks-then-not-is_same returns-then-not-is_same is_same-requires-2 shape_of-slacks-then-not-is_same-2 returns-then-not-is_same-2 shape_of-slacks returns)

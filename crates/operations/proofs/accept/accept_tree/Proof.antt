@@ -32,115 +32,115 @@ wrongs s = wrong_children s.args.n (parents_of s.args.n s.args.parents.now)
 abbrev lost : tie.Start → Option ℕ
 lost s = unreached s.args.n (parents_of s.args.n s.args.parents.now)
 
-wrong_one : (c : tie.After-v) → wrongs c.before.before.before.before.before.before.before.before.before.before ≡ some c.v.given.0.0
-wrong_one c = sym c.before.before.before.before.wrong-children.ensures ∙ ap found_in c.v.given.1
+wrong_one : (c : tie.In-At-2) → wrongs c.before.before.before.before.before.before.before.before.before.before ≡ some c.v-1.given.0.0
+wrong_one c = sym c.wrong_children.ensures ∙ ap found_in c.v-1.given.1
 
-wrong-none : (c : tie.After-enum-told) → wrongs c.before.before.before.before.before.before.before.before.before.before ≡ none
-wrong-none c = sym c.before.before.before.before.wrong-children.ensures ∙ ap found_in c.enum_told.given.1
+wrong-none : (c : tie.In_default) → wrongs c.before.before.before.before.before.before.before.before.before.before ≡ none
+wrong-none c = sym c.wrong_children.ensures ∙ ap found_in c.enum_told-1.given.1
 
-lost-one : (c : tie.After-v2) → lost c.before.before.before.before.before.before.before.before.before.before.before.before.before.before.before.before.before.before.before.before.before.before ≡ some c.v2.given.0.0
-lost-one c = sym c.before.before.before.before.before.before.before.before.lowest-unreached.ensures.0 ∙ ap found_in c.v2.given.1
+lost-one : (c : tie.In-At-lowest_unreached-2) → lost c.before.before.before.before.before.before.before.before.before.before.before.before.before.before.before.before.before.before.before.before.before.before ≡ some c.v-in-At-lowest_unreached-1.given.0.0
+lost-one c = sym c.lowest_unreached.ensures.0 ∙ ap found_in c.v-in-At-lowest_unreached-1.given.1
 
-lost-none : (c : tie.After-enum-told2) → lost c.before.before.before.before.before.before.before.before.before.before.before.before.before.before.before.before.before.before.before.before.before.before ≡ none
-lost-none c = sym c.before.before.before.before.before.before.before.before.lowest-unreached.ensures.0 ∙ ap found_in c.enum-told2.given.1
+lost-none : (c : tie.In_default-lowest_unreached) → lost c.before.before.before.before.before.before.before.before.before.before.before.before.before.before.before.before.before.before.before.before.before.before ≡ none
+lost-none c = sym c.lowest_unreached.ensures.0 ∙ ap found_in c.enum_told-in_default-lowest_unreached-1.given.1
 
-wrong-children-requires : tie.Need-wrong-children-requires
-wrong-children-requires c κs = search rules
+wrong_children-requires : tie.Need-wrong_children-requires
+wrong_children-requires c κs = search rules
 
-enum-known-v : tie.Need-enum-known-v
-enum-known-v c = search rules
+enum_known-v : tie.Need-enum_known-v
+enum_known-v c = search rules
 
-vertex-line-requires : tie.Need-vertex-line-requires
-vertex-line-requires c κs =
-    let s = c.before.before.before.before.before.before.before.before.before.before.before in
+vertex_line-line-requires : tie.Need-vertex_line-line-requires
+vertex_line-line-requires c κs =
+    let s = c in
     let p = s.requires.0.1.parents_in_lem in
-    omega (arith, wrong_vertex s.args.n (listing s).tree.parents c.before.v.given.0.0 p.some (wrong_one c.before), p.few)
+    omega (arith, wrong_vertex s.args.n (listing s.before.before.before.before.before.before.before.before.before.before.before).tree.parents c.v-1.given.0.0 p.some (wrong_one c.before), p.few)
 
-same_length : tie.Need-same-length
-same_length c = search rules
+shape_of-queue-in-At : tie.Need-shape_of-queue-in-At
+shape_of-queue-in-At c = search rules
+
+returns-in-At : tie.Need-returns-in-At
+returns-in-At c =
+    let s = c in
+    wrong_refused (net s.before.before.before.before.before.before.before.before.before.before.before.before) (listing s.before.before.before.before.before.before.before.before.before.before.before.before) s.args.n (sized s) c.v-1.given.0.0 c.vertex_line-line.result (wrong_one c.before.before) c.vertex_line-line.ensures
+
+enum_told-1 : tie.Need-enum_told-1
+enum_told-1 c = search rules
+
+lowest_unreached-requires : tie.Need-lowest_unreached-requires
+lowest_unreached-requires c κs =
+    let p = c.requires in
+    ((p.0.1.parents_in_lem, wrong-none c.before.before.before), (p.1.0, p.1.1, omega (arith, p.1.2, c.wrong_children.auto)))
+
+enum_known-v-in-At-lowest_unreached : tie.Need-enum_known-v-in-At-lowest_unreached
+enum_known-v-in-At-lowest_unreached c = search rules
+
+vertex_line-line-requires-in-At-lowest_unreached : tie.Need-vertex_line-line-requires-in-At-lowest_unreached
+vertex_line-line-requires-in-At-lowest_unreached c κs =
+    let s = c in
+    let p = s.requires.0.1.parents_in_lem in
+    omega (arith, lost_vertex s.args.n (listing s.before.before.before.before.before.before.before.before.before.before.before.before.before.before.before.before.before.before.before.before.before.before.before).tree.parents c.v-in-At-lowest_unreached-1.given.0.0 p.some (lost-one c.before), p.few)
+
+shape_of-first-in-At-lowest_unreached : tie.Need-shape_of-first-in-At-lowest_unreached
+shape_of-first-in-At-lowest_unreached c = search rules
+
+shape_of-second-in-At-lowest_unreached : tie.Need-shape_of-second-in-At-lowest_unreached
+shape_of-second-in-At-lowest_unreached c = search rules
+
+shape_of-queue-in-At-lowest_unreached : tie.Need-shape_of-queue-in-At-lowest_unreached
+shape_of-queue-in-At-lowest_unreached c = search rules
+
+returns-in-At-lowest_unreached : tie.Need-returns-in-At-lowest_unreached
+returns-in-At-lowest_unreached c =
+    let s = c in
+    lost_refused (net s.before.before.before.before.before.before.before.before.before.before.before.before.before.before.before.before.before.before.before.before.before.before.before.before) (listing s.before.before.before.before.before.before.before.before.before.before.before.before.before.before.before.before.before.before.before.before.before.before.before.before) s.args.n (sized s) (wrong-none c.before.before.before.before.before.before.before.before.before.before.before.before.before.before) c.v-in-At-lowest_unreached-1.given.0.0 c.vertex_line-line-in-At-lowest_unreached.result (lost-one c.before.before) c.vertex_line-line-in-At-lowest_unreached.ensures
+
+enum_told-in_default-lowest_unreached : tie.Need-enum_told-in_default-lowest_unreached
+enum_told-in_default-lowest_unreached c = search rules
+
+accept_stated-requires : tie.Need-accept_stated-requires
+accept_stated-requires c κs =
+    let p = c.requires in
+    (p.0, (c.lowest_unreached.ensures.1 (ap found_in c.enum_told-in_default-lowest_unreached-1.given.1), p.1.3))
+
+shape_of-first : tie.Need-shape_of-first
+shape_of-first c = search rules
+
+shape_of-second : tie.Need-shape_of-second
+shape_of-second c = search rules
+
+shape_of-queue : tie.Need-shape_of-queue
+shape_of-queue c = search rules
+
+shape_of-slacks : tie.Need-shape_of-slacks
+shape_of-slacks c = search rules
 
 returns : tie.Need-returns
 returns c =
-    let s = c.before.before.before.before.before.before.before.before.before.before.before.before in
-    wrong_refused (net s) (listing s) s.args.n (sized s) c.before.before.v.given.0.0 c.vertex-line.result (wrong_one c.before.before) c.vertex-line.ensures
+    let s = c in
+    legal_judged (net s.before.before.before.before.before.before.before.before.before.before.before.before.before.before.before.before.before.before.before.before.before.before.before.before.before) (listing s.before.before.before.before.before.before.before.before.before.before.before.before.before.before.before.before.before.before.before.before.before.before.before.before.before) s.args.n (sized s) (wrong-none c.before.before.before.before.before.before.before.before.before.before.before.before.before.before.before) (lost-none c.before.before.before) _ c.accept_stated.ensures
 
-enum_told : tie.Need-enum-told
-enum_told c = search rules
-
-lowest-unreached-requires : tie.Need-lowest-unreached-requires
-lowest-unreached-requires c κs =
-    let p = c.before.before.before.before.before.before.before.before.before.before.before.before.before.requires in
-    ((p.0.1.parents_in_lem, wrong-none c.before.before.before), (p.1.0, p.1.1, omega (arith, p.1.2, c.before.before.before.before.before.before.before.wrong-children.auto)))
-
-enum-known-v-2 : tie.Need-enum-known-v-2
-enum-known-v-2 c = search rules
-
-vertex-line-requires-2 : tie.Need-vertex-line-requires-2
-vertex-line-requires-2 c κs =
-    let s = c.before.before.before.before.before.before.before.before.before.before.before.before.before.before.before.before.before.before.before.before.before.before.before in
-    let p = s.requires.0.1.parents_in_lem in
-    omega (arith, lost_vertex s.args.n (listing s).tree.parents c.before.v2.given.0.0 p.some (lost-one c.before), p.few)
-
-same-length-2 : tie.Need-same-length-2
-same-length-2 c = search rules
-
-same-length-3 : tie.Need-same-length-3
-same-length-3 c = search rules
-
-same-length-4 : tie.Need-same-length-4
-same-length-4 c = search rules
-
-returns-2 : tie.Need-returns-2
-returns-2 c =
-    let s = c.before.before.before.before.before.before.before.before.before.before.before.before.before.before.before.before.before.before.before.before.before.before.before.before in
-    lost_refused (net s) (listing s) s.args.n (sized s) (wrong-none c.before.before.before.before.before.before.before.before.before.before.before.before.before.before) c.before.before.v2.given.0.0 c.vertex-line2.result (lost-one c.before.before) c.vertex-line2.ensures
-
-enum-told-2 : tie.Need-enum-told-2
-enum-told-2 c = search rules
-
-accept-stated-requires : tie.Need-accept-stated-requires
-accept-stated-requires c κs =
-    let p = c.before.before.before.before.before.before.before.before.before.before.before.before.before.before.before.before.before.before.before.before.before.before.before.before.requires in
-    (p.0, (c.before.before.before.before.before.before.before.before.before.before.lowest-unreached.ensures.1 (ap found_in c.before.before.enum-told2.given.1), p.1.3))
-
-same-length-5 : tie.Need-same-length-5
-same-length-5 c = search rules
-
-same-length-6 : tie.Need-same-length-6
-same-length-6 c = search rules
-
-same-length-7 : tie.Need-same-length-7
-same-length-7 c = search rules
-
-same-length-8 : tie.Need-same-length-8
-same-length-8 c = search rules
-
-returns-3 : tie.Need-returns-3
-returns-3 c =
-    let s = c.before.before.before.before.before.before.before.before.before.before.before.before.before.before.before.before.before.before.before.before.before.before.before.before.before.before in
-    legal_judged (net s) (listing s) s.args.n (sized s) (wrong-none c.before.before.before.before.before.before.before.before.before.before.before.before.before.before.before.before) (lost-none c.before.before.before.before) _ c.before.accept-stated.ensures
-
-pub accept-tree-spec : {M : Type 1} → statement M
-accept-tree-spec =
+pub accept_tree_spec : {M : Type 1} → statement M
+accept_tree_spec =
     tie.close
     (tie.spec
-    wrong-children-requires
-    enum-known-v
-    vertex-line-requires
-    same_length
-    returns
-    enum_told
-    lowest-unreached-requires
-    enum-known-v-2
-    vertex-line-requires-2
-    same-length-2
-    same-length-3
-    same-length-4
-    returns-2
-    enum-told-2
-    accept-stated-requires
-    same-length-5
-    same-length-6
-    same-length-7
-    same-length-8
-    returns-3)
+    wrong_children-requires
+    enum_known-v
+    vertex_line-line-requires
+    shape_of-queue-in-At
+    returns-in-At
+    enum_told-1
+    lowest_unreached-requires
+    enum_known-v-in-At-lowest_unreached
+    vertex_line-line-requires-in-At-lowest_unreached
+    shape_of-first-in-At-lowest_unreached
+    shape_of-second-in-At-lowest_unreached
+    shape_of-queue-in-At-lowest_unreached
+    returns-in-At-lowest_unreached
+    enum_told-in_default-lowest_unreached
+    accept_stated-requires
+    shape_of-first
+    shape_of-second
+    shape_of-queue
+    shape_of-slacks
+    returns)

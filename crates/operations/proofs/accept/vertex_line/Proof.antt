@@ -4,14 +4,14 @@ use borrow.Author.Rules.{rules}
 use Rattle.operations.proofs.accept.vertex_line.Statement.{statement}
 use Rattle.operations.proofs.accept.vertex_line.Tie as tie
 
-add-result : tie.Need-overflow-add-result
-add-result c = search rules
+overflow_add-result : tie.Need-overflow_add-result
+overflow_add-result c = search rules
 
-returns : tie.Need-returns
-returns c = search rules
+returns-then-v-eq0 : tie.Need-returns-then-v-eq0
+returns-then-v-eq0 c = search rules
 
-returns-2 : tie.Need-returns-2
-returns-2 c = line_below c.before.args.v c.if1.false
+returns-else-v-eq0 : tie.Need-returns-else-v-eq0
+returns-else-v-eq0 c = line_below c.args.v c.if-v-eq0.false
 
-pub vertex-line-spec : {M : Type 1} → statement M
-vertex-line-spec = tie.close (tie.spec add-result returns returns-2)
+pub vertex_line_spec : {M : Type 1} → statement M
+vertex_line_spec = tie.close (tie.spec overflow_add-result returns-then-v-eq0 returns-else-v-eq0)

@@ -12,28 +12,28 @@ use Rattle.operations.proofs.emit.emit.Tie as tie
 abbrev listing : tie.Start → Listing
 listing s = let a = s.args in listing_held a.slack a.wire a.n a.parents.now a.xs.now a.ys.now
 
-has-room-requires : tie.Need-has-room-requires
-has-room-requires c κs = search rules
+has_room-requires : tie.Need-has_room-requires
+has_room-requires c κs = search rules
+
+returns-then-not-has_room : tie.Need-returns-then-not-has_room
+returns-then-not-has_room c =
+    let s = c in
+    no_room s.args.n (listing s.before.before.before.before) s.args.out.now (leb-false _ _ (sym c.has_room.ensures ∙ not-true _ c.if-not-has_room.true))
+
+write_listing-bytes-requires : tie.Need-write_listing-bytes-requires
+write_listing-bytes-requires c κs =
+    let s = c in
+    (s.requires.0, (s.requires.1, leb-true _ _ (sym c.has_room.ensures ∙ not-false _ c.if-not-has_room.false)))
+
+shape_of-out : tie.Need-shape_of-out
+shape_of-out c = search rules
 
 returns : tie.Need-returns
 returns c =
-    let s = c.before.before.before.before in
-    no_room s.args.n (listing s) s.args.out.now (leb-false _ _ (sym c.before.has_room.ensures ∙ not-true _ c.if1.true))
-
-write-listing-requires : tie.Need-write-listing-requires
-write-listing-requires c κs =
-    let s = c.before.before.before.before.before in
-    (s.requires.0, (s.requires.1, leb-true _ _ (sym c.before.before.has_room.ensures ∙ not-false _ c.before.if1.false)))
-
-same_length : tie.Need-same-length
-same_length c = search rules
-
-returns-2 : tie.Need-returns-2
-returns-2 c =
-    let s = c.before.before.before.before.before.before.before.before in
+    let s = c in
     let a = s.args in
-    written_in_place a.n (listing s) a.out.now _ _ a.slack a.wire refl refl c.before.before.write-listing.ensures (leb-true _ _ (sym c.before.before.before.before.before.has_room.ensures ∙ not-false _ c.before.before.before.before.if1.false))
+    written_in_place a.n (listing s.before.before.before.before.before.before.before.before) a.out.now _ _ a.slack a.wire refl refl c.write_listing-bytes.ensures (leb-true _ _ (sym c.has_room.ensures ∙ not-false _ c.if-not-has_room.false))
 
-pub emit-spec : {M : Type 1} → statement M
-emit-spec =
-    tie.close (tie.spec has-room-requires returns write-listing-requires same_length returns-2)
+pub emit_spec : {M : Type 1} → statement M
+emit_spec =
+    tie.close (tie.spec has_room-requires returns-then-not-has_room write_listing-bytes-requires shape_of-out returns)

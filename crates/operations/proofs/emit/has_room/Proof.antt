@@ -8,16 +8,16 @@ use borrow.Author.Rules.{rules}
 use Rattle.operations.proofs.emit.has_room.Statement.{statement}
 use Rattle.operations.proofs.emit.has_room.Tie as tie
 
+returns-then-room-ge-LISTING_LENGTH_LIMIT : tie.Need-returns-then-room-ge-LISTING_LENGTH_LIMIT
+returns-then-room-ge-LISTING_LENGTH_LIMIT c =
+    let s = c in
+    sym (le-leb _ s.args.room (omega (arith, listing_short s.args.n _ s.requires.0, c.if-room-ge-LISTING_LENGTH_LIMIT.true)))
+
+listing_length-requires : tie.Need-listing_length-requires
+listing_length-requires c κs = search rules
+
 returns : tie.Need-returns
-returns c =
-    let s = c.before.before in
-    sym (le-leb _ s.args.room (omega (arith, listing_short s.args.n _ s.requires.0, c.if1.true)))
+returns c = ap (λ k. leb k c.args.room) c.listing_length.ensures
 
-listing-length-requires : tie.Need-listing-length-requires
-listing-length-requires c κs = search rules
-
-returns-2 : tie.Need-returns-2
-returns-2 c = ap (λ k. leb k c.before.before.before.args.room) c.listing-length.ensures
-
-pub has-room-spec : {M : Type 1} → statement M
-has-room-spec = tie.close (tie.spec returns listing-length-requires returns-2)
+pub has_room_spec : {M : Type 1} → statement M
+has_room_spec = tie.close (tie.spec returns-then-room-ge-LISTING_LENGTH_LIMIT listing_length-requires returns)

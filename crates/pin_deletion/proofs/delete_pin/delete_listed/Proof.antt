@@ -21,51 +21,51 @@ weights s = weights_of s.args.n s.args.weights.now
 accept-requires : tie.Need-accept-requires
 accept-requires c κs = search rules
 
-enum-known-refusal : tie.Need-enum-known-refusal
-enum-known-refusal c = search rules
+enum_known-refusal : tie.Need-enum_known-refusal
+enum_known-refusal c = search rules
 
-same_length : tie.Need-same-length
-same_length c = search rules
+shape_of-xs-in-NotAccepted : tie.Need-shape_of-xs-in-NotAccepted
+shape_of-xs-in-NotAccepted c = search rules
 
-same-length-2 : tie.Need-same-length-2
-same-length-2 c = search rules
+shape_of-ys-in-NotAccepted : tie.Need-shape_of-ys-in-NotAccepted
+shape_of-ys-in-NotAccepted c = search rules
 
-same-length-3 : tie.Need-same-length-3
-same-length-3 c = search rules
+shape_of-required-in-NotAccepted : tie.Need-shape_of-required-in-NotAccepted
+shape_of-required-in-NotAccepted c = search rules
 
-same-length-4 : tie.Need-same-length-4
-same-length-4 c = search rules
+shape_of-parents-in-NotAccepted : tie.Need-shape_of-parents-in-NotAccepted
+shape_of-parents-in-NotAccepted c = search rules
 
-same-length-5 : tie.Need-same-length-5
-same-length-5 c = search rules
+shape_of-first-in-NotAccepted : tie.Need-shape_of-first-in-NotAccepted
+shape_of-first-in-NotAccepted c = search rules
 
-same-length-6 : tie.Need-same-length-6
-same-length-6 c = search rules
+shape_of-second-in-NotAccepted : tie.Need-shape_of-second-in-NotAccepted
+shape_of-second-in-NotAccepted c = search rules
 
-same-length-7 : tie.Need-same-length-7
-same-length-7 c = search rules
+shape_of-queue-in-NotAccepted : tie.Need-shape_of-queue-in-NotAccepted
+shape_of-queue-in-NotAccepted c = search rules
 
-same-length-8 : tie.Need-same-length-8
-same-length-8 c = search rules
+shape_of-slacks-in-NotAccepted : tie.Need-shape_of-slacks-in-NotAccepted
+shape_of-slacks-in-NotAccepted c = search rules
 
-returns : tie.Need-returns
-returns c =
-    let s = c.before.before.before.before.before.before.before.before.before.before.before.before.before.before.before.before.before.before.before.before.before.before.before.before.before.before.before.before.before.before in
+returns-in-NotAccepted : tie.Need-returns-in-NotAccepted
+returns-in-NotAccepted c =
+    let s = c in
     let a = s.args in
-    refused_answers a.net-out.now a.listing-out.now _ _
-    (listing_turned (net s) (weights s) a.listing.now a.s _ _ c.before.refusal.given.0.0 (sym (rw c.before.refusal.given.1 at c.before.before.before.before.before.before.before.before.before.before.before.before.before.before.accept.ensures.0)))
+    refused_answers a.net_out.now a.listing_out.now _ _
+    (listing_turned (net s.before.before.before.before.before.before.before.before.before.before.before.before.before.before.before.before.before.before.before.before.before.before.before.before.before.before.before.before.before) (weights s.before.before.before.before.before.before.before.before.before.before.before.before.before.before.before.before.before.before.before.before.before.before.before.before.before.before.before.before.before) a.listing.now a.s _ _ c.refusal-1.given.0.0 (sym (rw c.refusal-1.given.1 at c.accept.ensures.0)))
 
-enum_told : tie.Need-enum-told
-enum_told c = search rules
+enum_told-1 : tie.Need-enum_told-1
+enum_told-1 c = search rules
 
-delete-sink-requires : tie.Need-delete-sink-requires
-delete-sink-requires c κs =
-    let s = c.before.before.before.before.before.before.before.before.before.before.before.before.before.before.before.before.before.before.before.before.before.before.before.before.before.before.before.before.before.before.before.before.before.before.before.before.before.before.before.before in
+delete_sink-requires : tie.Need-delete_sink-requires
+delete_sink-requires c κs =
+    let s = c in
     let a = s.args in
-    let r = c.before.before.before.before.before.before.before.before.before.before.before.before.before.before.before.before.before.before.before.before.before.before.before.before.accept in
-    let t = c.before.before.before.before.before.before.before.before.before.before.before.enum_told.given in
-    let l = r.new.1.1 in
-    let k = r.auto.1.1 in
+    let r = c.accept in
+    let t = c.enum_told-1.given in
+    let l = r.new.xs in
+    let k = r.auto.xs in
     let accepted = sym (rw t.1 at r.ensures.0) in (
       accepted_holds a.header a.n a.xs.now a.ys.now a.required.now l.0 l.1.0 l.1.1.1.0 a.listing.now t.0.0 t.0.1.0 r.ensures.1 accepted a.weights.now
           s.requires.0.0 s.requires.0.1 (omega (arith, k.1.1.1.0, s.requires.0.2)) (omega (arith, k.0, s.requires.0.2)) (omega (arith, k.1.0, s.requires.0.2)),
@@ -75,76 +75,76 @@ delete-sink-requires c κs =
       ),
     )
 
-same-length-9 : tie.Need-same-length-9
-same-length-9 c = c.before.before.before.before.before.before.before.before.before.before.before.before.before.before.before.before.before.delete-sink.auto.1.1.1.0 ∙ c.before.before.before.before.before.before.before.before.before.before.before.before.before.before.before.before.before.before.before.before.before.before.before.before.before.before.before.before.before.before.before.before.before.before.before.before.before.before.before.before.before.before.accept.auto.1.1.0
+shape_of-xs : tie.Need-shape_of-xs
+shape_of-xs c = c.delete_sink.auto.xs ∙ c.accept.auto.xs
 
-same-length-10 : tie.Need-same-length-10
-same-length-10 c = c.before.before.before.before.before.before.before.before.before.before.before.before.before.before.before.before.before.delete-sink.auto.1.1.1.1.0 ∙ c.before.before.before.before.before.before.before.before.before.before.before.before.before.before.before.before.before.before.before.before.before.before.before.before.before.before.before.before.before.before.before.before.before.before.before.before.before.before.before.before.before.before.accept.auto.1.1.1.0
+shape_of-ys : tie.Need-shape_of-ys
+shape_of-ys c = c.delete_sink.auto.ys ∙ c.accept.auto.ys
 
-same-length-11 : tie.Need-same-length-11
-same-length-11 c = search rules
+shape_of-required : tie.Need-shape_of-required
+shape_of-required c = search rules
 
-same-length-12 : tie.Need-same-length-12
-same-length-12 c = search rules
+shape_of-weights : tie.Need-shape_of-weights
+shape_of-weights c = search rules
 
-same-length-13 : tie.Need-same-length-13
-same-length-13 c = c.before.before.before.before.before.before.before.before.before.before.before.before.before.before.before.before.before.delete-sink.auto.1.1.1.1.1.1.1.0 ∙ c.before.before.before.before.before.before.before.before.before.before.before.before.before.before.before.before.before.before.before.before.before.before.before.before.before.before.before.before.before.before.before.before.before.before.before.before.before.before.before.before.before.before.accept.auto.1.1.1.1.1.0
+shape_of-parents : tie.Need-shape_of-parents
+shape_of-parents c = c.delete_sink.auto.parents ∙ c.accept.auto.parents
 
-same-length-14 : tie.Need-same-length-14
-same-length-14 c = c.before.before.before.before.before.before.before.before.before.before.before.before.before.before.before.before.before.delete-sink.auto.1.1.1.1.1.1.1.1.0 ∙ c.before.before.before.before.before.before.before.before.before.before.before.before.before.before.before.before.before.before.before.before.before.before.before.before.before.before.before.before.before.before.before.before.before.before.before.before.before.before.before.before.before.before.accept.auto.1.1.1.1.1.1.0
+shape_of-first : tie.Need-shape_of-first
+shape_of-first c = c.delete_sink.auto.first ∙ c.accept.auto.first
 
-same-length-15 : tie.Need-same-length-15
-same-length-15 c = c.before.before.before.before.before.before.before.before.before.before.before.before.before.before.before.before.before.delete-sink.auto.1.1.1.1.1.1.1.1.1.0 ∙ c.before.before.before.before.before.before.before.before.before.before.before.before.before.before.before.before.before.before.before.before.before.before.before.before.before.before.before.before.before.before.before.before.before.before.before.before.before.before.before.before.before.before.accept.auto.1.1.1.1.1.1.1.0
+shape_of-second : tie.Need-shape_of-second
+shape_of-second c = c.delete_sink.auto.second ∙ c.accept.auto.second
 
-same-length-16 : tie.Need-same-length-16
-same-length-16 c = c.before.before.before.before.before.before.before.before.before.before.before.before.before.before.before.before.before.delete-sink.auto.1.1.1.1.1.1.1.1.1.1.0 ∙ c.before.before.before.before.before.before.before.before.before.before.before.before.before.before.before.before.before.before.before.before.before.before.before.before.before.before.before.before.before.before.before.before.before.before.before.before.before.before.before.before.before.before.accept.auto.1.1.1.1.1.1.1.1.0
+shape_of-queue : tie.Need-shape_of-queue
+shape_of-queue c = c.delete_sink.auto.queue ∙ c.accept.auto.queue
 
-same-length-17 : tie.Need-same-length-17
-same-length-17 c = c.before.before.before.before.before.before.before.before.before.before.before.before.before.before.before.before.before.delete-sink.auto.1.1.1.1.1.1.1.1.1.1.1.0 ∙ c.before.before.before.before.before.before.before.before.before.before.before.before.before.before.before.before.before.before.before.before.before.before.before.before.before.before.before.before.before.before.before.before.before.before.before.before.before.before.before.before.before.before.accept.auto.1.1.1.1.1.1.1.1.1.0
+shape_of-slacks : tie.Need-shape_of-slacks
+shape_of-slacks c = c.delete_sink.auto.slacks ∙ c.accept.auto.slacks
 
-same-length-18 : tie.Need-same-length-18
-same-length-18 c = search rules
+shape_of-net_out : tie.Need-shape_of-net_out
+shape_of-net_out c = search rules
 
-same-length-19 : tie.Need-same-length-19
-same-length-19 c = search rules
+shape_of-listing_out : tie.Need-shape_of-listing_out
+shape_of-listing_out c = search rules
 
-returns-2 : tie.Need-returns-2
-returns-2 c =
-    let s = c.before.before.before.before.before.before.before.before.before.before.before.before.before.before.before.before.before.before.before.before.before.before.before.before.before.before.before.before.before.before.before.before.before.before.before.before.before.before.before.before.before.before.before.before.before.before.before.before.before.before.before.before.before.before.before.before.before.before in
+returns : tie.Need-returns
+returns c =
+    let s = c in
     let a = s.args in
-    let r = c.before.before.before.before.before.before.before.before.before.before.before.before.before.before.before.before.before.before.before.before.before.before.before.before.before.before.before.before.before.before.before.before.before.before.before.before.before.before.before.before.before.before.accept in
-    let t = c.before.before.before.before.before.before.before.before.before.before.before.before.before.before.before.before.before.before.before.before.before.before.before.before.before.before.before.before.before.enum_told.given in
-    let l = r.new.1.1 in
-    same_answers a.net-out.now a.listing-out.now _ _ _ _ _
-    (accepted_deleted a.header a.n a.xs.now a.ys.now a.required.now l.0 l.1.0 l.1.1.1.0 a.listing.now t.0.0 t.0.1.0 r.ensures.1 (sym (rw t.1 at r.ensures.0)) (weights s) a.s _ _)
-    c.before.before.before.before.before.before.before.before.before.before.before.before.before.before.before.before.before.delete-sink.ensures
+    let r = c.accept in
+    let t = c.enum_told-1.given in
+    let l = r.new.xs in
+    same_answers a.net_out.now a.listing_out.now _ _ _ _ _
+    (accepted_deleted a.header a.n a.xs.now a.ys.now a.required.now l.0 l.1.0 l.1.1.1.0 a.listing.now t.0.0 t.0.1.0 r.ensures.1 (sym (rw t.1 at r.ensures.0)) (weights s.before.before.before.before.before.before.before.before.before.before.before.before.before.before.before.before.before.before.before.before.before.before.before.before.before.before.before.before.before.before.before.before.before.before.before.before.before.before.before.before.before.before.before.before.before.before.before.before.before.before.before.before.before.before.before.before.before) a.s _ _)
+    c.delete_sink.ensures
 
-pub delete-listed-spec : {M : Type 1} → statement M
-delete-listed-spec =
+pub delete_listed_spec : {M : Type 1} → statement M
+delete_listed_spec =
     tie.close
     (tie.spec
     accept-requires
-    enum-known-refusal
-    same_length
-    same-length-2
-    same-length-3
-    same-length-4
-    same-length-5
-    same-length-6
-    same-length-7
-    same-length-8
-    returns
-    enum_told
-    delete-sink-requires
-    same-length-9
-    same-length-10
-    same-length-11
-    same-length-12
-    same-length-13
-    same-length-14
-    same-length-15
-    same-length-16
-    same-length-17
-    same-length-18
-    same-length-19
-    returns-2)
+    enum_known-refusal
+    shape_of-xs-in-NotAccepted
+    shape_of-ys-in-NotAccepted
+    shape_of-required-in-NotAccepted
+    shape_of-parents-in-NotAccepted
+    shape_of-first-in-NotAccepted
+    shape_of-second-in-NotAccepted
+    shape_of-queue-in-NotAccepted
+    shape_of-slacks-in-NotAccepted
+    returns-in-NotAccepted
+    enum_told-1
+    delete_sink-requires
+    shape_of-xs
+    shape_of-ys
+    shape_of-required
+    shape_of-weights
+    shape_of-parents
+    shape_of-first
+    shape_of-second
+    shape_of-queue
+    shape_of-slacks
+    shape_of-net_out
+    shape_of-listing_out
+    returns)

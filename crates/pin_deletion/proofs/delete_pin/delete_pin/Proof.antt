@@ -4,46 +4,46 @@ use borrow.Author.Rules.{rules}
 use Rattle.pin_deletion.proofs.delete_pin.delete_pin.Statement.{statement}
 use Rattle.pin_deletion.proofs.delete_pin.delete_pin.Tie as tie
 
-read-head-requires : tie.Need-read-head-requires
-read-head-requires c κs = search rules
+read_head-requires : tie.Need-read_head-requires
+read_head-requires c κs = search rules
 
-enum-known-refusal : tie.Need-enum-known-refusal
-enum-known-refusal c = search rules
+enum_known-refusal : tie.Need-enum_known-refusal
+enum_known-refusal c = search rules
 
-enum-known-header : tie.Need-enum-known-header
-enum-known-header c = search rules
+enum_known-header : tie.Need-enum_known-header
+enum_known-header c = search rules
 
-delete-read-requires : tie.Need-delete-read-requires
-delete-read-requires c κs = rw c.before.before.before.header.given.1 at c.before.before.before.before.before.read_head.ensures
+delete_read-requires : tie.Need-delete_read-requires
+delete_read-requires c κs = rw c.header-1.given.1 at c.read_head.ensures
 
-returns : tie.Need-returns
-returns c =
-    let a = c.before.before.before.before.before.before.before.before.args in
-    let o = outputs_are a.net.now a.listing.now a.sink a.net-out.now a.listing-out.now _ _ _
-    (refused_answers a.net-out.now a.listing-out.now _ _ (net_turned a.net.now a.listing.now a.sink _ _ _ (rw c.before.refusal.given.1 at c.before.before.before.read_head.ensures))) in
+returns-in-HeadRefused : tie.Need-returns-in-HeadRefused
+returns-in-HeadRefused c =
+    let a = c.args in
+    let o = outputs_are a.net.now a.listing.now a.sink a.net_out.now a.listing_out.now _ _ _
+    (refused_answers a.net_out.now a.listing_out.now _ _ (net_turned a.net.now a.listing.now a.sink _ _ _ (rw c.refusal-1.given.1 at c.read_head.ensures))) in
     (o.0, (o.1, o.2))
 
-same_length : tie.Need-same-length
-same_length c = search rules
+shape_of-net_out : tie.Need-shape_of-net_out
+shape_of-net_out c = search rules
 
-same-length-2 : tie.Need-same-length-2
-same-length-2 c = search rules
+shape_of-listing_out : tie.Need-shape_of-listing_out
+shape_of-listing_out c = search rules
 
-returns-2 : tie.Need-returns-2
-returns-2 c =
-    let a = c.before.before.before.before.before.before.before.before.before.before.before.before.before.before.before.args in
-    let o = outputs_are a.net.now a.listing.now a.sink a.net-out.now a.listing-out.now _ _ _ c.before.before.before.before.delete-read.ensures in
+returns-in-HeadRead : tie.Need-returns-in-HeadRead
+returns-in-HeadRead c =
+    let a = c.args in
+    let o = outputs_are a.net.now a.listing.now a.sink a.net_out.now a.listing_out.now _ _ _ c.delete_read.ensures in
     (o.0, (o.1, o.2))
 
-pub delete-pin-spec : {M : Type 1} → statement M
-delete-pin-spec =
+pub delete_pin_spec : {M : Type 1} → statement M
+delete_pin_spec =
     tie.close
     (tie.spec
-    read-head-requires
-    enum-known-refusal
-    enum-known-header
-    delete-read-requires
-    returns
-    same_length
-    same-length-2
-    returns-2)
+    read_head-requires
+    enum_known-refusal
+    enum_known-header
+    delete_read-requires
+    returns-in-HeadRefused
+    shape_of-net_out
+    shape_of-listing_out
+    returns-in-HeadRead)

@@ -4,59 +4,59 @@ use borrow.Author.Rules.{rules}
 use Rattle.pin_deletion.proofs.delete_pin.delete_read.Statement.{statement}
 use Rattle.pin_deletion.proofs.delete_pin.delete_read.Tie as tie
 
-slice-aggregate-delete-rest : tie.Need-slice-aggregate-delete-rest
-slice-aggregate-delete-rest c = search rules
+slice_bounds-delete_rest-end : tie.Need-slice_bounds-delete_rest-end
+slice_bounds-delete_rest-end c = search rules
 
-slice-aggregate-delete-rest-2 : tie.Need-slice-aggregate-delete-rest-2
-slice-aggregate-delete-rest-2 c = search rules
+slice_bounds-delete_rest-end-2 : tie.Need-slice_bounds-delete_rest-end-2
+slice_bounds-delete_rest-end-2 c = search rules
 
-slice-aggregate-delete-rest-3 : tie.Need-slice-aggregate-delete-rest-3
-slice-aggregate-delete-rest-3 c = search rules
+slice_bounds-delete_rest-end-3 : tie.Need-slice_bounds-delete_rest-end-3
+slice_bounds-delete_rest-end-3 c = search rules
 
-slice-aggregate-delete-rest-4 : tie.Need-slice-aggregate-delete-rest-4
-slice-aggregate-delete-rest-4 c = search rules
+slice_bounds-delete_rest-end-4 : tie.Need-slice_bounds-delete_rest-end-4
+slice_bounds-delete_rest-end-4 c = search rules
 
-slice-aggregate-delete-rest-5 : tie.Need-slice-aggregate-delete-rest-5
-slice-aggregate-delete-rest-5 c = search rules
+slice_bounds-delete_rest-end-5 : tie.Need-slice_bounds-delete_rest-end-5
+slice_bounds-delete_rest-end-5 c = search rules
 
-slice-aggregate-delete-rest-6 : tie.Need-slice-aggregate-delete-rest-6
-slice-aggregate-delete-rest-6 c = search rules
+slice_bounds-delete_rest-end-6 : tie.Need-slice_bounds-delete_rest-end-6
+slice_bounds-delete_rest-end-6 c = search rules
 
-slice-aggregate-delete-rest-7 : tie.Need-slice-aggregate-delete-rest-7
-slice-aggregate-delete-rest-7 c = search rules
+slice_bounds-delete_rest-end-7 : tie.Need-slice_bounds-delete_rest-end-7
+slice_bounds-delete_rest-end-7 c = search rules
 
-slice-aggregate-delete-rest-8 : tie.Need-slice-aggregate-delete-rest-8
-slice-aggregate-delete-rest-8 c = search rules
+slice_bounds-delete_rest-end-8 : tie.Need-slice_bounds-delete_rest-end-8
+slice_bounds-delete_rest-end-8 c = search rules
 
-slice-aggregate-delete-rest-9 : tie.Need-slice-aggregate-delete-rest-9
-slice-aggregate-delete-rest-9 c = search rules
+slice_bounds-delete_rest-end-9 : tie.Need-slice_bounds-delete_rest-end-9
+slice_bounds-delete_rest-end-9 c = search rules
 
-delete-rest-requires : tie.Need-delete-rest-requires
-delete-rest-requires c κs = let p = c.before.before.before.before.before.before.before.before.before.before.before.before.before.before.before.requires in (p, omega (arith, p.1.0))
+delete_rest-requires : tie.Need-delete_rest-requires
+delete_rest-requires c κs = let p = c.requires in (p, omega (arith, p.1.0))
 
-same_length : tie.Need-same-length
-same_length c = search rules
+shape_of-net_out : tie.Need-shape_of-net_out
+shape_of-net_out c = search rules
 
-same-length-2 : tie.Need-same-length-2
-same-length-2 c = search rules
+shape_of-listing_out : tie.Need-shape_of-listing_out
+shape_of-listing_out c = search rules
 
 returns : tie.Need-returns
 returns c = search rules
 
-pub delete-read-spec : {M : Type 1} → statement M
-delete-read-spec =
+pub delete_read_spec : {M : Type 1} → statement M
+delete_read_spec =
     tie.close
     (tie.spec
-    slice-aggregate-delete-rest
-    slice-aggregate-delete-rest-2
-    slice-aggregate-delete-rest-3
-    slice-aggregate-delete-rest-4
-    slice-aggregate-delete-rest-5
-    slice-aggregate-delete-rest-6
-    slice-aggregate-delete-rest-7
-    slice-aggregate-delete-rest-8
-    slice-aggregate-delete-rest-9
-    delete-rest-requires
-    same_length
-    same-length-2
+    slice_bounds-delete_rest-end
+    slice_bounds-delete_rest-end-2
+    slice_bounds-delete_rest-end-3
+    slice_bounds-delete_rest-end-4
+    slice_bounds-delete_rest-end-5
+    slice_bounds-delete_rest-end-6
+    slice_bounds-delete_rest-end-7
+    slice_bounds-delete_rest-end-8
+    slice_bounds-delete_rest-end-9
+    delete_rest-requires
+    shape_of-net_out
+    shape_of-listing_out
     returns)

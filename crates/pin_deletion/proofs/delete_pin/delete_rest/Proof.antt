@@ -8,42 +8,42 @@ use borrow.Author.Rules.{rules}
 use Rattle.pin_deletion.proofs.delete_pin.delete_rest.Statement.{statement}
 use Rattle.pin_deletion.proofs.delete_pin.delete_rest.Tie as tie
 
-read-rest-requires : tie.Need-read-rest-requires
-read-rest-requires c κs = search rules
+read_rest-requires : tie.Need-read_rest-requires
+read_rest-requires c κs = search rules
 
-enum-known-refusal : tie.Need-enum-known-refusal
-enum-known-refusal c = search rules
+enum_known-refusal : tie.Need-enum_known-refusal
+enum_known-refusal c = search rules
 
-same_length : tie.Need-same-length
-same_length c = search rules
+shape_of-xs-in-NetRefused : tie.Need-shape_of-xs-in-NetRefused
+shape_of-xs-in-NetRefused c = search rules
 
-same-length-2 : tie.Need-same-length-2
-same-length-2 c = search rules
+shape_of-ys-in-NetRefused : tie.Need-shape_of-ys-in-NetRefused
+shape_of-ys-in-NetRefused c = search rules
 
-same-length-3 : tie.Need-same-length-3
-same-length-3 c = search rules
+shape_of-required-in-NetRefused : tie.Need-shape_of-required-in-NetRefused
+shape_of-required-in-NetRefused c = search rules
 
-same-length-4 : tie.Need-same-length-4
-same-length-4 c = search rules
+shape_of-weights-in-NetRefused : tie.Need-shape_of-weights-in-NetRefused
+shape_of-weights-in-NetRefused c = search rules
 
-returns : tie.Need-returns
-returns c =
-    let s = c.before.before.before.before.before.before.before.before.before.before.before.before.before.before.before.before.before.before.before.before in
+returns-in-NetRefused : tie.Need-returns-in-NetRefused
+returns-in-NetRefused c =
+    let s = c in
     let a = s.args in
-    refused_answers a.net-out.now a.listing-out.now _ _ (net_turned a.net.now a.listing.now a.s _ _ _ (s.requires.0.0 ∙ (rw c.before.refusal.given.1 at (c.before.before.before.before.before.before.before.read-rest.ensures a.header))))
+    refused_answers a.net_out.now a.listing_out.now _ _ (net_turned a.net.now a.listing.now a.s _ _ _ (s.requires.0.0 ∙ (rw c.refusal-1.given.1 at (c.read_rest.ensures a.header))))
 
-enum_told : tie.Need-enum-told
-enum_told c = search rules
+enum_told-1 : tie.Need-enum_told-1
+enum_told-1 c = search rules
 
-delete-listed-requires : tie.Need-delete-listed-requires
-delete-listed-requires c κs =
-    let s = c.before.before.before.before.before.before.before.before.before.before.before.before.before.before.before.before.before.before.before.before.before.before.before.before.before.before.before.before.before.before in
+delete_listed-requires : tie.Need-delete_listed-requires
+delete_listed-requires c κs =
+    let s = c in
     let a = s.args in
-    let r = c.before.before.before.before.before.before.before.before.before.before.before.before.before.before.before.before.before.read-rest in
-    let l = r.new.1.1.1.1 in
-    let k = r.auto.1.1.1.1 in
+    let r = c.read_rest in
+    let l = r.new.xs in
+    let k = r.auto.xs in
     let p = s.requires.1 in
-    let read = s.requires.0.0 ∙ (rw c.before.before.before.before.before.before.before.before.before.before.before.enum_told.given.1 at (r.ensures a.header)) in (
+    let read = s.requires.0.0 ∙ (rw c.enum_told-1.given.1 at (r.ensures a.header)) in (
       (
         read_net_holds a.header a.n l.0 l.1.0 l.1.1.0 a.net.now (net_of_lem a.net.now _ read) (omega (arith, k.0, p.0)) (omega (arith, k.1.0, p.0)) (omega (arith, k.1.1.0, p.0)),
         read_weights_hold a.header a.n l.0 l.1.0 l.1.1.0 a.net.now l.1.1.1.0 read (omega (arith, k.1.1.1.0, p.0)),
@@ -52,69 +52,69 @@ delete-listed-requires c κs =
       p.2,
     )
 
-same-length-5 : tie.Need-same-length-5
-same-length-5 c = c.before.before.before.before.before.before.before.before.before.before.before.before.before.before.before.before.before.delete-listed.auto.1.1.1.0 ∙ c.before.before.before.before.before.before.before.before.before.before.before.before.before.before.before.before.before.before.before.before.before.before.before.before.before.before.before.before.before.before.before.before.before.before.before.read-rest.auto.1.1.1.1.0
+shape_of-xs : tie.Need-shape_of-xs
+shape_of-xs c = c.delete_listed.auto.xs ∙ c.read_rest.auto.xs
 
-same-length-6 : tie.Need-same-length-6
-same-length-6 c = c.before.before.before.before.before.before.before.before.before.before.before.before.before.before.before.before.before.delete-listed.auto.1.1.1.1.0 ∙ c.before.before.before.before.before.before.before.before.before.before.before.before.before.before.before.before.before.before.before.before.before.before.before.before.before.before.before.before.before.before.before.before.before.before.before.read-rest.auto.1.1.1.1.1.0
+shape_of-ys : tie.Need-shape_of-ys
+shape_of-ys c = c.delete_listed.auto.ys ∙ c.read_rest.auto.ys
 
-same-length-7 : tie.Need-same-length-7
-same-length-7 c = c.before.before.before.before.before.before.before.before.before.before.before.before.before.before.before.before.before.delete-listed.auto.1.1.1.1.1.0 ∙ c.before.before.before.before.before.before.before.before.before.before.before.before.before.before.before.before.before.before.before.before.before.before.before.before.before.before.before.before.before.before.before.before.before.before.before.read-rest.auto.1.1.1.1.1.1.0
+shape_of-required : tie.Need-shape_of-required
+shape_of-required c = c.delete_listed.auto.required ∙ c.read_rest.auto.required
 
-same-length-8 : tie.Need-same-length-8
-same-length-8 c = c.before.before.before.before.before.before.before.before.before.before.before.before.before.before.before.before.before.delete-listed.auto.1.1.1.1.1.1.0 ∙ c.before.before.before.before.before.before.before.before.before.before.before.before.before.before.before.before.before.before.before.before.before.before.before.before.before.before.before.before.before.before.before.before.before.before.before.read-rest.auto.1.1.1.1.1.1.1.0
+shape_of-weights : tie.Need-shape_of-weights
+shape_of-weights c = c.delete_listed.auto.weights ∙ c.read_rest.auto.weights
 
-same-length-9 : tie.Need-same-length-9
-same-length-9 c = search rules
+shape_of-parents : tie.Need-shape_of-parents
+shape_of-parents c = search rules
 
-same-length-10 : tie.Need-same-length-10
-same-length-10 c = search rules
+shape_of-first : tie.Need-shape_of-first
+shape_of-first c = search rules
 
-same-length-11 : tie.Need-same-length-11
-same-length-11 c = search rules
+shape_of-second : tie.Need-shape_of-second
+shape_of-second c = search rules
 
-same-length-12 : tie.Need-same-length-12
-same-length-12 c = search rules
+shape_of-queue : tie.Need-shape_of-queue
+shape_of-queue c = search rules
 
-same-length-13 : tie.Need-same-length-13
-same-length-13 c = search rules
+shape_of-slacks : tie.Need-shape_of-slacks
+shape_of-slacks c = search rules
 
-same-length-14 : tie.Need-same-length-14
-same-length-14 c = search rules
+shape_of-net_out : tie.Need-shape_of-net_out
+shape_of-net_out c = search rules
 
-same-length-15 : tie.Need-same-length-15
-same-length-15 c = search rules
+shape_of-listing_out : tie.Need-shape_of-listing_out
+shape_of-listing_out c = search rules
 
-returns-2 : tie.Need-returns-2
-returns-2 c =
-    let s = c.before.before.before.before.before.before.before.before.before.before.before.before.before.before.before.before.before.before.before.before.before.before.before.before.before.before.before.before.before.before.before.before.before.before.before.before.before.before.before.before.before.before.before.before.before.before.before.before in
+returns : tie.Need-returns
+returns c =
+    let s = c in
     let a = s.args in
-    same_answers a.net-out.now a.listing-out.now _ _ _ _ _
-    (sym (net_read a.net.now a.listing.now a.s _ _ _ _ (s.requires.0.0 ∙ (rw c.before.before.before.before.before.before.before.before.before.before.before.before.before.before.before.before.before.before.before.before.before.before.before.before.before.before.before.before.before.enum_told.given.1 at (c.before.before.before.before.before.before.before.before.before.before.before.before.before.before.before.before.before.before.before.before.before.before.before.before.before.before.before.before.before.before.before.before.before.before.before.read-rest.ensures a.header)))))
-    c.before.before.before.before.before.before.before.before.before.before.before.before.before.before.before.before.before.delete-listed.ensures
+    same_answers a.net_out.now a.listing_out.now _ _ _ _ _
+    (sym (net_read a.net.now a.listing.now a.s _ _ _ _ (s.requires.0.0 ∙ (rw c.enum_told-1.given.1 at (c.read_rest.ensures a.header)))))
+    c.delete_listed.ensures
 
-pub delete-rest-spec : {M : Type 1} → statement M
-delete-rest-spec =
+pub delete_rest_spec : {M : Type 1} → statement M
+delete_rest_spec =
     tie.close
     (tie.spec
-    read-rest-requires
-    enum-known-refusal
-    same_length
-    same-length-2
-    same-length-3
-    same-length-4
-    returns
-    enum_told
-    delete-listed-requires
-    same-length-5
-    same-length-6
-    same-length-7
-    same-length-8
-    same-length-9
-    same-length-10
-    same-length-11
-    same-length-12
-    same-length-13
-    same-length-14
-    same-length-15
-    returns-2)
+    read_rest-requires
+    enum_known-refusal
+    shape_of-xs-in-NetRefused
+    shape_of-ys-in-NetRefused
+    shape_of-required-in-NetRefused
+    shape_of-weights-in-NetRefused
+    returns-in-NetRefused
+    enum_told-1
+    delete_listed-requires
+    shape_of-xs
+    shape_of-ys
+    shape_of-required
+    shape_of-weights
+    shape_of-parents
+    shape_of-first
+    shape_of-second
+    shape_of-queue
+    shape_of-slacks
+    shape_of-net_out
+    shape_of-listing_out
+    returns)

@@ -58,110 +58,110 @@ shorter-held s d ps xs ys rs ws closed =
       λ slack wire e f. shortened_listed a.header a.n a.s a.parents.now a.xs.now a.ys.now a.required.now a.weights.now s.requires.0 d.0 d.1 d.2 ps xs ys rs ws closed slack wire s.requires.1.0 e f,
     )
 
-is-sink-requires : tie.Need-is-sink-requires
-is-sink-requires c κs = search rules
+is_sink-requires : tie.Need-is_sink-requires
+is_sink-requires c κs = search rules
 
-returns : tie.Need-returns
-returns c =
-    let s = c.before.before.before.before.before.before.before.before in
+returns-then-not-is_sink : tie.Need-returns-then-not-is_sink
+returns-then-not-is_sink c =
+    let s = c in
     let a = s.args in
-    refused_answers a.net-out.now a.listing-out.now _ _ (not_a_sink (net s) (weights s) (tree s) a.s _ _ a.n (sized s) (sym c.before.is-sink.ensures ∙ not-true _ c.if1.true))
+    refused_answers a.net_out.now a.listing_out.now _ _ (not_a_sink (net s.before.before.before.before.before.before.before.before) (weights s.before.before.before.before.before.before.before.before) (tree s.before.before.before.before.before.before.before.before) a.s _ _ a.n (sized s) (sym c.is_sink.ensures ∙ not-true _ c.if-not-is_sink.true))
 
-returns-2 : tie.Need-returns-2
-returns-2 c =
-    let s = c.before.before.before.before.before.before.before.before.before in
+returns-then-n-eq1 : tie.Need-returns-then-n-eq1
+returns-then-n-eq1 c =
+    let s = c in
     let a = s.args in
-    refused_answers a.net-out.now a.listing-out.now _ _ (only_sink (net s) (weights s) (tree s) a.s _ _ a.n (sized s) (sym c.before.before.is-sink.ensures ∙ not-false _ c.before.if1.false) c.if2.true)
+    refused_answers a.net_out.now a.listing_out.now _ _ (only_sink (net s.before.before.before.before.before.before.before.before.before) (weights s.before.before.before.before.before.before.before.before.before) (tree s.before.before.before.before.before.before.before.before.before) a.s _ _ a.n (sized s) (sym c.is_sink.ensures ∙ not-false _ c.if-not-is_sink.false) c.if-n-eq1.true)
 
-shorten-requires : tie.Need-shorten-requires
-shorten-requires c κs =
-    let s = c.before.before.before.before.before.before.before.before.before.before.before.before.before.before.before.before.before.before in
-    let d = deletable s (sym c.before.before.before.before.before.before.before.before.before.before.before.is-sink.ensures ∙ not-false _ c.before.before.before.before.before.before.before.before.before.before.if1.false) c.before.before.before.before.before.before.before.before.before.if2.false in
+shorten-tally-requires : tie.Need-shorten-tally-requires
+shorten-tally-requires c κs =
+    let s = c in
+    let d = deletable s (sym c.is_sink.ensures ∙ not-false _ c.if-not-is_sink.false) c.if-n-eq1.false in
     (s.requires.0, (d.0, d.1, d.2, s.requires.1.1))
 
-sub-emit-both : tie.Need-overflow-sub-emit-both
-sub-emit-both c = omega (arith, c.before.before.before.before.before.before.before.before.before.before.before.before.before.before.before.before.before.before.before.before.before.before.before.before.before.before.before.before.before.before.before.before.before.before.requires.0.2.parents_in_lem.some)
+overflow_sub-n : tie.Need-overflow_sub-n
+overflow_sub-n c = omega (arith, c.requires.0.2.parents_in_lem.some)
 
-emit-both-requires : tie.Need-emit-both-requires
-emit-both-requires c κs =
-    let s = c.before.before.before.before.before.before.before.before.before.before.before.before.before.before.before.before.before.before.before.before.before.before.before.before.before.before.before.before.before.before.before.before.before.before.before.before.before.before.before in
-    let k = c.before.before.before.before.before.before.before.before.before.before.before.before.before.before.before.before.before.before.before.before.shorten in
-    let l = k.new.1.1.1 in
-    let kept = k.auto.1.1.1 in
-    let d = deletable s (sym c.before.before.before.before.before.before.before.before.before.before.before.before.before.before.before.before.before.before.before.before.before.before.before.before.before.before.before.before.before.before.before.before.is-sink.ensures ∙ not-false _ c.before.before.before.before.before.before.before.before.before.before.before.before.before.before.before.before.before.before.before.before.before.before.before.before.before.before.before.before.before.before.before.if1.false) c.before.before.before.before.before.before.before.before.before.before.before.before.before.before.before.before.before.before.before.before.before.before.before.before.before.before.before.before.before.before.if2.false in
+emit_both-requires : tie.Need-emit_both-requires
+emit_both-requires c κs =
+    let s = c in
+    let k = c.shorten-tally in
+    let l = k.new.parents in
+    let kept = k.auto.parents in
+    let d = deletable s (sym c.is_sink.ensures ∙ not-false _ c.if-not-is_sink.false) c.if-n-eq1.false in
     let after = shorter-held s d l.0 l.1.0 l.1.1.0 l.1.1.1.0 l.1.1.1.1.0 k.ensures.0 in
     let long = s.requires.0.2 in (
       (after.0 kept.0 kept.1.0 kept.1.1.0 kept.1.1.1.0, after.1 kept.1.1.1.1.0),
       (after.2 k.result.worst k.result.wire k.ensures.1.0 k.ensures.1.1, (omega (arith, kept.0, long.parents_in_lem.long), omega (arith, kept.1.0, long.points_in_lem.xs_long), omega (arith, kept.1.1.0, long.points_in_lem.ys_long))),
     )
 
-same_length : tie.Need-same-length
-same_length c = search rules
+shape_of-xs : tie.Need-shape_of-xs
+shape_of-xs c = search rules
 
-same-length-2 : tie.Need-same-length-2
-same-length-2 c = search rules
+shape_of-ys : tie.Need-shape_of-ys
+shape_of-ys c = search rules
 
-same-length-3 : tie.Need-same-length-3
-same-length-3 c = search rules
+shape_of-required : tie.Need-shape_of-required
+shape_of-required c = search rules
 
-same-length-4 : tie.Need-same-length-4
-same-length-4 c = search rules
+shape_of-weights : tie.Need-shape_of-weights
+shape_of-weights c = search rules
 
-same-length-5 : tie.Need-same-length-5
-same-length-5 c = search rules
+shape_of-parents : tie.Need-shape_of-parents
+shape_of-parents c = search rules
 
-same-length-6 : tie.Need-same-length-6
-same-length-6 c = search rules
+shape_of-first : tie.Need-shape_of-first
+shape_of-first c = search rules
 
-same-length-7 : tie.Need-same-length-7
-same-length-7 c = search rules
+shape_of-second : tie.Need-shape_of-second
+shape_of-second c = search rules
 
-same-length-8 : tie.Need-same-length-8
-same-length-8 c = search rules
+shape_of-queue : tie.Need-shape_of-queue
+shape_of-queue c = search rules
 
-same-length-9 : tie.Need-same-length-9
-same-length-9 c = search rules
+shape_of-slacks : tie.Need-shape_of-slacks
+shape_of-slacks c = search rules
 
-same-length-10 : tie.Need-same-length-10
-same-length-10 c = search rules
+shape_of-net_out : tie.Need-shape_of-net_out
+shape_of-net_out c = search rules
 
-same-length-11 : tie.Need-same-length-11
-same-length-11 c = search rules
+shape_of-listing_out : tie.Need-shape_of-listing_out
+shape_of-listing_out c = search rules
 
-returns-3 : tie.Need-returns-3
-returns-3 c =
-    let s = c.before.before.before.before.before.before.before.before.before.before.before.before.before.before.before.before.before.before.before.before.before.before.before.before.before.before.before.before.before.before.before.before.before.before.before.before.before.before.before.before.before.before.before.before in
+returns : tie.Need-returns
+returns c =
+    let s = c in
     let a = s.args in
-    let k = c.before.before.before.before.before.before.before.before.before.before.before.before.before.before.before.before.before.before.before.before.before.before.before.before.before.shorten in
-    let l = k.new.1.1.1 in
-    let sink = sym c.before.before.before.before.before.before.before.before.before.before.before.before.before.before.before.before.before.before.before.before.before.before.before.before.before.before.before.before.before.before.before.before.before.before.before.before.before.is-sink.ensures ∙ not-false _ c.before.before.before.before.before.before.before.before.before.before.before.before.before.before.before.before.before.before.before.before.before.before.before.before.before.before.before.before.before.before.before.before.before.before.before.before.if1.false in
-    let more = c.before.before.before.before.before.before.before.before.before.before.before.before.before.before.before.before.before.before.before.before.before.before.before.before.before.before.before.before.before.before.before.before.before.before.before.if2.false in
+    let k = c.shorten-tally in
+    let l = k.new.parents in
+    let sink = sym c.is_sink.ensures ∙ not-false _ c.if-not-is_sink.false in
+    let more = c.if-n-eq1.false in
     let d = deletable s sink more in
     let texts = shortened_texts a.header a.n a.s a.parents.now a.xs.now a.ys.now a.required.now a.weights.now
     l.0 l.1.0 l.1.1.0 l.1.1.1.0 l.1.1.1.1.0 k.ensures.0 k.result.worst k.result.wire k.ensures.1.0 k.ensures.1.1 in
-    same_answers a.net-out.now a.listing-out.now _ _ _ _ _
-    (ap (λ t. both_fit t (length a.net-out.now) (length a.listing-out.now)) texts ∙ sym (sink_goes (net s) (weights s) (tree s) a.s _ _ a.n (sized s) sink more))
-    c.before.before.before.before.emit-both.ensures
+    same_answers a.net_out.now a.listing_out.now _ _ _ _ _
+    (ap (λ t. both_fit t (length a.net_out.now) (length a.listing_out.now)) texts ∙ sym (sink_goes (net s.before.before.before.before.before.before.before.before.before.before.before.before.before.before.before.before.before.before.before.before.before.before.before.before.before.before.before.before.before.before.before.before.before.before.before.before.before.before.before.before.before) (weights s.before.before.before.before.before.before.before.before.before.before.before.before.before.before.before.before.before.before.before.before.before.before.before.before.before.before.before.before.before.before.before.before.before.before.before.before.before.before.before.before.before) (tree s.before.before.before.before.before.before.before.before.before.before.before.before.before.before.before.before.before.before.before.before.before.before.before.before.before.before.before.before.before.before.before.before.before.before.before.before.before.before.before.before.before) a.s _ _ a.n (sized s) sink more))
+    c.emit_both.ensures
 
-pub delete-sink-spec : {M : Type 1} → statement M
-delete-sink-spec =
+pub delete_sink_spec : {M : Type 1} → statement M
+delete_sink_spec =
     tie.close
     (tie.spec
-    is-sink-requires
-    returns
-    returns-2
-    shorten-requires
-    sub-emit-both
-    emit-both-requires
-    same_length
-    same-length-2
-    same-length-3
-    same-length-4
-    same-length-5
-    same-length-6
-    same-length-7
-    same-length-8
-    same-length-9
-    same-length-10
-    same-length-11
-    returns-3)
+    is_sink-requires
+    returns-then-not-is_sink
+    returns-then-n-eq1
+    shorten-tally-requires
+    overflow_sub-n
+    emit_both-requires
+    shape_of-xs
+    shape_of-ys
+    shape_of-required
+    shape_of-weights
+    shape_of-parents
+    shape_of-first
+    shape_of-second
+    shape_of-queue
+    shape_of-slacks
+    shape_of-net_out
+    shape_of-listing_out
+    returns)

@@ -11,19 +11,19 @@ use borrow.Author.Rules.{rules}
 use Rattle.pin_deletion.proofs.emit_both.has_net_room.Statement.{statement}
 use Rattle.pin_deletion.proofs.emit_both.has_net_room.Tie as tie
 
-returns : tie.Need-returns
-returns c =
-    let s = c.before in
+returns-then-room-ge-NET_LENGTH_LIMIT : tie.Need-returns-then-room-ge-NET_LENGTH_LIMIT
+returns-then-room-ge-NET_LENGTH_LIMIT c =
+    let s = c in
     let a = s.args in
     let sized = size_is a.header a.n a.xs.now a.ys.now a.required.now in
     let weighed = subst (λ m. WeightsInRange m (weights_of a.n a.weights.now)) (sym sized) s.requires.1.in_range in
-    sym (le-leb _ a.room (omega (arith, net_short (net_of a.header a.n a.xs.now a.ys.now a.required.now) (weights_of a.n a.weights.now) s.requires.0.in_range weighed, c.if1.true)))
+    sym (le-leb _ a.room (omega (arith, net_short (net_of a.header a.n a.xs.now a.ys.now a.required.now) (weights_of a.n a.weights.now) s.requires.0.in_range weighed, c.if-room-ge-NET_LENGTH_LIMIT.true)))
 
-net-length-requires : tie.Need-net-length-requires
-net-length-requires c κs = search rules
+net_length-requires : tie.Need-net_length-requires
+net_length-requires c κs = search rules
 
-returns-2 : tie.Need-returns-2
-returns-2 c = ap (λ k. leb k c.before.before.args.room) c.net-length.ensures
+returns : tie.Need-returns
+returns c = ap (λ k. leb k c.args.room) c.net_length.ensures
 
-pub has-net-room-spec : {M : Type 1} → statement M
-has-net-room-spec = tie.close (tie.spec returns net-length-requires returns-2)
+pub has_net_room_spec : {M : Type 1} → statement M
+has_net_room_spec = tie.close (tie.spec returns-then-room-ge-NET_LENGTH_LIMIT net_length-requires returns)

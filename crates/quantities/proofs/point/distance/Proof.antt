@@ -19,23 +19,23 @@ span-requires-2 : tie.Need-span-requires-2
 span-requires-2 c κs = search rules
 
 -- what the two calls gave, at the coordinates themselves
-across : (c : tie.After-span2) → c.before.before.before.span.result.0 ≡ span c.before.before.before.before.before.before.args.p.x c.before.before.before.before.before.before.args.q.x
+across : (c : tie.After-span-2) → c.span.result.0 ≡ span c.args.p.x c.args.q.x
 across c =
-    let a = c.before.before.before.before.before.before.args in
+    let a = c.args in
     let f : SFits w64 a.p.x = omega (arith, whole) in
     let g : SFits w64 a.q.x = omega (arith, whole) in
-    c.before.before.before.span.ensures ∙ ap₂ span (to_z-of_z f) (to_z-of_z g)
+    c.span.ensures ∙ ap₂ span (to_z-of_z f) (to_z-of_z g)
 
-along : (c : tie.After-span2) → c.span2.result.0 ≡ span c.before.before.before.before.before.before.args.p.y c.before.before.before.before.before.before.args.q.y
+along : (c : tie.After-span-2) → c.span-2.result.0 ≡ span c.args.p.y c.args.q.y
 along c =
-    let a = c.before.before.before.before.before.before.args in
+    let a = c.args in
     let f : SFits w64 a.p.y = omega (arith, whole) in
     let g : SFits w64 a.q.y = omega (arith, whole) in
-    c.span2.ensures ∙ ap₂ span (to_z-of_z f) (to_z-of_z g)
+    c.span-2.ensures ∙ ap₂ span (to_z-of_z f) (to_z-of_z g)
 
 plus-requires : tie.Need-plus-requires
 plus-requires c κs =
-    let s = c.before.before.before.before.before.before in
+    let s = c in
     let a = s.args in
     let p = s.requires.0 in
     let q = s.requires.1 in
@@ -51,5 +51,5 @@ returns : tie.Need-returns
 unfolding distance
 returns c = omega (arith, c.plus.ensures, across c.before, along c.before)
 
-pub distance-spec : {M : Type 1} → statement M
-distance-spec = tie.close (tie.spec span-requires span-requires-2 plus-requires returns)
+pub distance_spec : {M : Type 1} → statement M
+distance_spec = tie.close (tie.spec span-requires span-requires-2 plus-requires returns)

@@ -5,23 +5,23 @@ use Rattle.quantities.proofs.Laws.Median.{median_is}
 use Rattle.quantities.proofs.point.median.Statement.{statement}
 use Rattle.quantities.proofs.point.median.Tie as tie
 
-returns : tie.Need-returns
-returns c = let a = c.before.before.args in omega (arith, whole, median_is a.a a.b a.c)
+returns-then-b-c : tie.Need-returns-then-b-c
+returns-then-b-c c = let a = c.args in omega (arith, whole, median_is a.a a.b a.c)
 
-returns-2 : tie.Need-returns-2
-returns-2 c = let a = c.before.before.before.args in omega (arith, whole, median_is a.a a.b a.c)
+returns-then-a-c : tie.Need-returns-then-a-c
+returns-then-a-c c = let a = c.args in omega (arith, whole, median_is a.a a.b a.c)
 
-returns-3 : tie.Need-returns-3
-returns-3 c = let a = c.before.before.before.args in omega (arith, whole, median_is a.a a.b a.c)
+returns-else-a-c : tie.Need-returns-else-a-c
+returns-else-a-c c = let a = c.args in omega (arith, whole, median_is a.a a.b a.c)
 
-returns-4 : tie.Need-returns-4
-returns-4 c = let a = c.before.before.args in omega (arith, whole, median_is a.a a.b a.c)
+returns-then-a-c-2 : tie.Need-returns-then-a-c-2
+returns-then-a-c-2 c = let a = c.args in omega (arith, whole, median_is a.a a.b a.c)
 
-returns-5 : tie.Need-returns-5
-returns-5 c = let a = c.before.before.before.args in omega (arith, whole, median_is a.a a.b a.c)
+returns-then-b-c-2 : tie.Need-returns-then-b-c-2
+returns-then-b-c-2 c = let a = c.args in omega (arith, whole, median_is a.a a.b a.c)
 
-returns-6 : tie.Need-returns-6
-returns-6 c = let a = c.before.before.before.args in omega (arith, whole, median_is a.a a.b a.c)
+returns-else-b-c-2 : tie.Need-returns-else-b-c-2
+returns-else-b-c-2 c = let a = c.args in omega (arith, whole, median_is a.a a.b a.c)
 
-pub median-spec : {M : Type 1} → statement M
-median-spec = tie.close (tie.spec returns returns-2 returns-3 returns-4 returns-5 returns-6)
+pub median_spec : {M : Type 1} → statement M
+median_spec = tie.close (tie.spec returns-then-b-c returns-then-a-c returns-else-a-c returns-then-a-c-2 returns-then-b-c-2 returns-else-b-c-2)

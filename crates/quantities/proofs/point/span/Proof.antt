@@ -6,35 +6,35 @@ use borrow.Author.Rules.{rules}
 use Rattle.quantities.proofs.point.span.Statement.{statement}
 use Rattle.quantities.proofs.point.span.Tie as tie
 
-sub_of : tie.Need-overflow-sub-of
-sub_of c = let a = c.before.args in omega (arith, whole, -is (rd a.b) (rd a.a))
+overflow_sub-b : tie.Need-overflow_sub-b
+overflow_sub-b c = let a = c.args in omega (arith, whole, -is (rd a.b) (rd a.a))
 
-cast-of : tie.Need-overflow-cast-of
-cast-of c = let a = c.before.args in let h = sub_of c in omega (arith, whole, -is (rd a.b) (rd a.a), back_abs h)
+overflow_cast-b : tie.Need-overflow_cast-b
+overflow_cast-b c = let a = c.args in let h = overflow_sub-b c in omega (arith, whole, -is (rd a.b) (rd a.a), back_abs h)
 
 of-requires : tie.Need-of-requires
 of-requires c κs = search rules
 
-sub-of-2 : tie.Need-overflow-sub-of-2
-sub-of-2 c = let a = c.before.args in omega (arith, whole, -is (rd a.a) (rd a.b))
+overflow_sub-a : tie.Need-overflow_sub-a
+overflow_sub-a c = let a = c.args in omega (arith, whole, -is (rd a.a) (rd a.b))
 
-cast-of-2 : tie.Need-overflow-cast-of-2
-cast-of-2 c = let a = c.before.args in let h = sub-of-2 c in omega (arith, whole, -is (rd a.a) (rd a.b), back_abs h)
+overflow_cast-a : tie.Need-overflow_cast-a
+overflow_cast-a c = let a = c.args in let h = overflow_sub-a c in omega (arith, whole, -is (rd a.a) (rd a.b), back_abs h)
 
-of-requires-2 : tie.Need-of-requires-2
-of-requires-2 c κs = search rules
+of-requires-else-a-b : tie.Need-of-requires-else-a-b
+of-requires-else-a-b c κs = search rules
 
-returns : tie.Need-returns
-returns c =
-    let a = c.before.before.args in
-    omega (arith, whole, c.of.ensures, -is (rd a.b) (rd a.a), back_abs (sub_of c.before), span_is a.a a.b)
+returns-then-a-b : tie.Need-returns-then-a-b
+returns-then-a-b c =
+    let a = c.args in
+    omega (arith, whole, c.of.ensures, -is (rd a.b) (rd a.a), back_abs (overflow_sub-b c.before), span_is a.a a.b)
 
-returns-2 : tie.Need-returns-2
-returns-2 c =
-    let a = c.before.before.args in
-    omega (arith, whole, c.of2.ensures, -is (rd a.a) (rd a.b), back_abs (sub-of-2 c.before), span_is a.a a.b)
+returns-else-a-b : tie.Need-returns-else-a-b
+returns-else-a-b c =
+    let a = c.args in
+    omega (arith, whole, c.of-else-a-b.ensures, -is (rd a.a) (rd a.b), back_abs (overflow_sub-a c.before), span_is a.a a.b)
 
-pub span-spec : {M : Type 1} → statement M
-span-spec =
+pub span_spec : {M : Type 1} → statement M
+span_spec =
     tie.close
-    (tie.spec sub_of cast-of of-requires sub-of-2 cast-of-2 of-requires-2 returns returns-2)
+    (tie.spec overflow_sub-b overflow_cast-b of-requires overflow_sub-a overflow_cast-a of-requires-else-a-b returns-then-a-b returns-else-a-b)

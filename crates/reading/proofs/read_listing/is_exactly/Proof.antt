@@ -4,13 +4,13 @@ use Rattle.formats.proofs.Laws.Listings.DueFor.{compared_held}
 use Rattle.reading.proofs.read_listing.is_exactly.Statement.{statement}
 use Rattle.reading.proofs.read_listing.is_exactly.Tie as tie
 
+returns-then-number : tie.Need-returns-then-number
+returns-then-number c = compared_negative c.args.k c.requires c.args.number c.if-number.true
+
 returns : tie.Need-returns
-returns c = compared_negative c.before.args.k c.before.requires c.before.args.number c.if1.true
+returns c =
+    let b = c in
+    compared_held b.args.k b.requires b.args.number c.if-number.false
 
-returns-2 : tie.Need-returns-2
-returns-2 c =
-    let b = c.before.before in
-    compared_held b.args.k b.requires b.args.number c.before.if1.false
-
-pub is-exactly-spec : {M : Type 1} → statement M
-is-exactly-spec = tie.close (tie.spec returns returns-2)
+pub is_exactly_spec : {M : Type 1} → statement M
+is_exactly_spec = tie.close (tie.spec returns-then-number returns)

@@ -3,11 +3,11 @@ use borrow.Author.Tests.{le-leb, lt-leb}
 use Rattle.reading.proofs.read_listing.is_sink.Statement.{statement}
 use Rattle.reading.proofs.read_listing.is_sink.Tie as tie
 
-returns : tie.Need-returns
-returns c = rw (le-leb _ _ c.if1.true)
+returns-then-v-ge1 : tie.Need-returns-then-v-ge1
+returns-then-v-ge1 c = rw (le-leb _ _ c.if-v-ge1.true)
 
-returns-2 : tie.Need-returns-2
-returns-2 c = rw (lt-leb _ _ c.if1.false)
+returns-else-v-ge1 : tie.Need-returns-else-v-ge1
+returns-else-v-ge1 c = rw (lt-leb _ _ c.if-v-ge1.false)
 
-pub is-sink-spec : {M : Type 1} → statement M
-is-sink-spec = tie.close (tie.spec returns returns-2)
+pub is_sink_spec : {M : Type 1} → statement M
+is_sink_spec = tie.close (tie.spec returns-then-v-ge1 returns-else-v-ge1)

@@ -22,125 +22,125 @@ use Rattle.formats.proofs.Laws.Listings.DueFor.{tested_as, vertex_wrong, vertex_
 use Rattle.reading.proofs.read_listing.leaf_at.Statement.{statement}
 use Rattle.reading.proofs.read_listing.leaf_at.Tie as tie
 
-abbrev start : tie.After-known-told → tie.Start
+abbrev start : tie.In-AsDue → tie.Start
 start t = t.before.before.before.before.before.before
 
-abbrev text : tie.After-known-told → List ℕ
+abbrev text : tie.In-AsDue → List ℕ
 text t = (start t).args.text.now
 
-abbrev numbers : tie.After-known-told → Numbers
+abbrev numbers : tie.In-AsDue → Numbers
 numbers t = t.before.numbers.given.0.0
 
-abbrev end : tie.After-known-told → Place
+abbrev end : tie.In-AsDue → Place
 end t = t.before.numbers.given.0.1.0
 
-slice-aggregate-read-line : tie.Need-slice-aggregate-read-line
-slice-aggregate-read-line c = search rules
+read_line-requires : tie.Need-read_line-requires
+read_line-requires c = search rules
 
-read-line-requires : tie.Need-read-line-requires
-read-line-requires c κs = search rules
+enum_known-numbers : tie.Need-enum_known-numbers
+enum_known-numbers c κs = search rules
 
-enum-known-numbers : tie.Need-enum-known-numbers
-enum-known-numbers c = search rules
+enum_told-1 : tie.Need-enum_told-1
+enum_told-1 c = search rules
 
-enum_told : tie.Need-enum-told
-enum_told c = search rules
+not_due-requires : tie.Need-not_due-requires
+not_due-requires c = search rules
 
-not-due-requires : tie.Need-not-due-requires
-not-due-requires c κs = search rules
+returns-in_default : tie.Need-returns-in_default
+returns-in_default c κs = search rules
 
-returns : tie.Need-returns
-returns c =
-    let b = c.before.before.before.before.before.before in
+is_exactly-requires : tie.Need-is_exactly-requires
+is_exactly-requires c =
+    let b = c in
     vertex_wrong leaf_key [] b.args.n b.args.k b.args.text.now b.args.here.at b.args.here.line b.requires.1
-    (sym c.before.enum_told.given.1 ∙ c.before.before.before.read-line.ensures)
-    c.not-due.result c.not-due.ensures
+    (sym c.enum_told-1.given.1 ∙ c.read_line.ensures)
+    c.not_due.result c.not_due.ensures
 
 -- what the reader took
-took : (t : tie.After-known-told) → AsDue (numbers t) (end t) ≡ taken_at (start t).args.here.at (start t).args.here.line (line_in leaf_key 2 (drop (start t).args.here.at (text t)))
-took t = sym t.before.numbers.given.1 ∙ t.before.before.before.read-line.ensures
+took : (t : tie.In-AsDue) → AsDue (numbers t) (end t) ≡ taken_at (start t).args.here.at (start t).args.here.line (line_in leaf_key 2 (drop (start t).args.here.at (text t)))
+took t = sym t.before.numbers.given.1 ∙ t.before.before.before.read_line.ensures
 
-is-exactly-requires : tie.Need-is-exactly-requires
-is-exactly-requires c κs = search rules
+not_due-requires-then-not-is_exactly : tie.Need-not_due-requires-then-not-is_exactly
+not_due-requires-then-not-is_exactly c κs = search rules
 
-not-due-requires-2 : tie.Need-not-due-requires-2
-not-due-requires-2 c κs = search rules
+returns-then-not-is_exactly : tie.Need-returns-then-not-is_exactly
+returns-then-not-is_exactly c κs = search rules
 
-returns-2 : tie.Need-returns-2
-returns-2 c =
-    let t = c.before.before.before in
-    vertex_other leaf_key [] (start t).args.n (start t).args.k (text t) (start t).args.here.at (start t).args.here.line (start t).requires.1
-    (omega arith) (numbers t) (end t) (took t) (λ z h. sym (not-true _ c.before.if1.true) ∙ c.before.before.is-exactly.ensures z h)
-    c.not-due2.result c.not-due2.ensures
+overflow_mul-n : tie.Need-overflow_mul-n
+overflow_mul-n c =
+    let t = c in
+    vertex_other leaf_key [] (start t.before.before.before.before).args.n (start t.before.before.before.before).args.k (text t.before.before.before.before) (start t.before.before.before.before).args.here.at (start t.before.before.before.before).args.here.line (start t.before.before.before.before).requires.1
+    (omega arith) (numbers t.before.before.before.before) (end t.before.before.before.before) (took t) (λ z h. sym (not-true _ c.if-not-is_exactly.true) ∙ c.is_exactly.ensures z h)
+    c.not_due-then-not-is_exactly.result c.not_due-then-not-is_exactly.ensures
 
-same : (c : tie.Else1) → Compared true (start c.before.before).args.k (numbers c.before.before).first
-same c z h = sym (not-false _ c.if1.false) ∙ c.before.is-exactly.ensures z h
+same : (c : tie.Else-not-is_exactly) → Compared true (start c.before.before.before).args.k (numbers c.before.before.before).first
+same c z h = sym (not-false _ c.if-not-is_exactly.false) ∙ c.is_exactly.ensures z h
 
-mul-from-zero : tie.Need-overflow-mul-from-zero
-mul-from-zero c = search rules
+overflow_sub-n : tie.Need-overflow_sub-n
+overflow_sub-n c = search rules
 
-sub-from-zero : tie.Need-overflow-sub-from-zero
-sub-from-zero c = search rules
+from_zero-requires : tie.Need-from_zero-requires
+from_zero-requires c = search rules
 
-from-zero-requires : tie.Need-from-zero-requires
-from-zero-requires c κs = search rules
+is_inside-requires : tie.Need-is_inside-requires
+is_inside-requires c κs = search rules
 
-narrow : (c : tie.After-known-told) → Narrow (parent_range (start c).args.n)
+narrow : (c : tie.In-AsDue) → Narrow (parent_range (start c).args.n)
 narrow t = from_narrow (2 * (start t).args.n - 1) (omega arith) 0
 
-is-inside-requires : tie.Need-is-inside-requires
-is-inside-requires c κs = subst Narrow (sym c.from_zero.ensures) (narrow c.before.before.before.before)
+out_of_range-requires : tie.Need-out_of_range-requires
+out_of_range-requires c κs = subst Narrow (sym c.from_zero.ensures) (narrow c.before.before.before.before.before.before.before)
 
 -- how the parent was tested
-tested : (c : tie.After-is-inside) (u : Bool) → c.is-inside.result ≡ u
-    → Tested u (parent_range (start c.before.before.before.before.before).args.n) (numbers c.before.before.before.before.before).second
+tested : (c : tie.After-is_inside) (u : Bool) → c.is_inside.result ≡ u
+    → Tested u (parent_range (start c.before.before.before.before.before.before).args.n) (numbers c.before.before.before.before.before.before).second
 tested c u e =
-    let t = c.before.before.before.before.before in
-    tested_as c.is-inside.result u c.before.from_zero.result (parent_range (start t).args.n) (numbers t).second c.is-inside.ensures e c.before.from_zero.ensures
+    let t = c in
+    tested_as c.is_inside.result u c.from_zero.result (parent_range (start t.before.before.before.before.before.before).args.n) (numbers t.before.before.before.before.before.before).second c.is_inside.ensures e c.from_zero.ensures
 
-out-of-range-requires : tie.Need-out-of-range-requires
-out-of-range-requires c κs = search rules
+returns-then-not-is_inside : tie.Need-returns-then-not-is_inside
+returns-then-not-is_inside c κs = search rules
 
-returns-3 : tie.Need-returns-3
-returns-3 c =
-    let i = c.before.before in
-    let e = i.before.before.before in
-    let t = e.before.before in
-    vertex_out leaf_key [] (start t).args.n (start t).args.k (text t) (start t).args.here.at (start t).args.here.line (start t).requires.1
-    (omega arith) (numbers t) (end t) (took t) (same e) (inl (tested i false (not-true _ c.before.if2.true)))
+with_parent-requires : tie.Need-with_parent-requires
+with_parent-requires c =
+    let i = c in
+    let e = i in
+    let t = e in
+    vertex_out leaf_key [] (start t.before.before.before.before.before.before.before).args.n (start t.before.before.before.before.before.before.before).args.k (text t.before.before.before.before.before.before.before) (start t.before.before.before.before.before.before.before).args.here.at (start t.before.before.before.before.before.before.before).args.here.line (start t.before.before.before.before.before.before.before).requires.1
+    (omega arith) (numbers t.before.before.before.before.before.before.before) (end t.before.before.before.before.before.before.before) (took t) (same e.before.before.before.before) (inl (tested i.before false (not-true _ c.if-not-is_inside.true)))
     c.out_of_range.result c.out_of_range.ensures
 
-with-parent-requires : tie.Need-with-parent-requires
-with-parent-requires c κs = search rules
+returns : tie.Need-returns
+returns c κs = search rules
 
 returns-4 : tie.Need-returns-4
 returns-4 c =
-    let i = c.before.before in
-    let e = i.before.before.before in
-    let t = e.before.before in
+    let i = c in
+    let e = i in
+    let t = e in
     vertex_in leaf_key [] (start t).args.n (start t).args.k (text t) (start t).args.here.at (start t).args.here.line (start t).requires.1
-    (omega arith) (numbers t) (end t) (took t) (same e) (start t).requires.0 (narrow t, tt) (tested i true (not-false _ c.before.if2.false), tt)
+    (omega arith) (numbers t) (end t) (took t) (same e) (start t).requires.0 (narrow t, tt) (tested i true (not-false _ c.if-not-is_inside.false), tt)
     (numbers t).second.mag (pos 0) (pos 0) (ap (λ (p : ℕ). record { parent = p; point = record { x = pos 0; y = pos 0 } }) (value_abs (numbers t).second))
-    c.with-parent.result c.with-parent.ensures
+    c.with_parent.result c.with_parent.ensures
 
-pub leaf-at-spec : {M : Type 1} → statement M
-leaf-at-spec =
+pub leaf_at_spec : {M : Type 1} → statement M
+leaf_at_spec =
     tie.close
     (tie.spec
-    slice-aggregate-read-line
-    read-line-requires
-    enum-known-numbers
-    enum_told
-    not-due-requires
+    read_line-requires
+    enum_known-numbers
+    enum_told-1
+    not_due-requires
+    returns-in_default
+    is_exactly-requires
+    not_due-requires-then-not-is_exactly
+    returns-then-not-is_exactly
+    overflow_mul-n
+    overflow_sub-n
+    from_zero-requires
+    is_inside-requires
+    out_of_range-requires
+    returns-then-not-is_inside
+    with_parent-requires
     returns
-    is-exactly-requires
-    not-due-requires-2
-    returns-2
-    mul-from-zero
-    sub-from-zero
-    from-zero-requires
-    is-inside-requires
-    out-of-range-requires
-    returns-3
-    with-parent-requires
     returns-4)

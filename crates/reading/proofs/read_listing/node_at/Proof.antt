@@ -25,59 +25,59 @@ use Rattle.formats.proofs.Laws.Listings.DueFor.{vertex_wrong, vertex_other, vert
 use Rattle.reading.proofs.read_listing.node_at.Statement.{statement}
 use Rattle.reading.proofs.read_listing.node_at.Tie as tie
 
-abbrev start : tie.After-known-told → tie.Start
+abbrev start : tie.In-AsDue → tie.Start
 start t = t.before.before.before.before.before.before
 
-abbrev text : tie.After-known-told → List ℕ
+abbrev text : tie.In-AsDue → List ℕ
 text t = (start t).args.text.now
 
-abbrev numbers : tie.After-known-told → Numbers
+abbrev numbers : tie.In-AsDue → Numbers
 numbers t = t.before.numbers.given.0.0
 
-abbrev end : tie.After-known-told → Place
+abbrev end : tie.In-AsDue → Place
 end t = t.before.numbers.given.0.1.0
 
-slice-aggregate-read-line : tie.Need-slice-aggregate-read-line
-slice-aggregate-read-line c = search rules
+read_line-requires : tie.Need-read_line-requires
+read_line-requires c = search rules
 
-read-line-requires : tie.Need-read-line-requires
-read-line-requires c κs = search rules
+enum_known-numbers : tie.Need-enum_known-numbers
+enum_known-numbers c κs = search rules
 
-enum-known-numbers : tie.Need-enum-known-numbers
-enum-known-numbers c = search rules
+enum_told-1 : tie.Need-enum_told-1
+enum_told-1 c = search rules
 
-enum_told : tie.Need-enum-told
-enum_told c = search rules
+not_due-requires : tie.Need-not_due-requires
+not_due-requires c = search rules
 
-not-due-requires : tie.Need-not-due-requires
-not-due-requires c κs = search rules
+returns-in_default : tie.Need-returns-in_default
+returns-in_default c κs = search rules
 
-returns : tie.Need-returns
-returns c =
-    let b = c.before.before.before.before.before.before in
+is_exactly-requires : tie.Need-is_exactly-requires
+is_exactly-requires c =
+    let b = c in
     vertex_wrong node_key position_ranges b.args.n b.args.k b.args.text.now b.args.here.at b.args.here.line b.pre.1
-    (sym c.before.enum_told.given.1 ∙ c.before.before.before.read-line.ensures)
-    c.not-due.result c.not-due.ensures
+    (sym c.enum_told-1.given.1 ∙ c.read_line.ensures)
+    c.not_due.result c.not_due.ensures
 
 -- what the reader took
-took : (t : tie.After-known-told) → AsDue (numbers t) (end t) ≡ taken_at (start t).args.here.at (start t).args.here.line (line_in node_key 4 (drop (start t).args.here.at (text t)))
-took t = sym t.before.numbers.given.1 ∙ t.before.before.before.read-line.ensures
+took : (t : tie.In-AsDue) → AsDue (numbers t) (end t) ≡ taken_at (start t).args.here.at (start t).args.here.line (line_in node_key 4 (drop (start t).args.here.at (text t)))
+took t = sym t.before.numbers.given.1 ∙ t.before.before.before.read_line.ensures
 
-is-exactly-requires : tie.Need-is-exactly-requires
-is-exactly-requires c κs = search rules
+not_due-requires-then-not-is_exactly : tie.Need-not_due-requires-then-not-is_exactly
+not_due-requires-then-not-is_exactly c κs = search rules
 
-not-due-requires-2 : tie.Need-not-due-requires-2
-not-due-requires-2 c κs = search rules
+returns-then-not-is_exactly : tie.Need-returns-then-not-is_exactly
+returns-then-not-is_exactly c κs = search rules
 
-returns-2 : tie.Need-returns-2
-returns-2 c =
-    let t = c.before.before.before in
-    vertex_other node_key position_ranges (start t).args.n (start t).args.k (text t) (start t).args.here.at (start t).args.here.line (start t).pre.1
-    (omega arith) (numbers t) (end t) (took t) (λ z h. sym (not-true _ c.before.if1.taken) ∙ c.before.before.is-exactly.ensures z h)
-    c.not-due2.result c.not-due2.ensures
+node_in_range-requires : tie.Need-node_in_range-requires
+node_in_range-requires c =
+    let t = c in
+    vertex_other node_key position_ranges (start t.before.before.before).args.n (start t.before.before.before).args.k (text t.before.before.before) (start t.before.before.before).args.here.at (start t.before.before.before).args.here.line (start t.before.before.before).pre.1
+    (omega arith) (numbers t.before.before.before) (end t.before.before.before) (took t) (λ z h. sym (not-true _ c.if-not-is_exactly.taken) ∙ c.is_exactly.ensures z h)
+    c.not_due-then-not-is_exactly.result c.not_due-then-not-is_exactly.ensures
 
-same : (c : tie.Else1) → Compared true (start c.before.before).args.k (numbers c.before.before).first
-same c z h = sym (not-false _ c.if1.left) ∙ c.before.is-exactly.ensures z h
+same : (c : tie.Else-not-is_exactly) → Compared true (start c.before.before.before).args.k (numbers c.before.before.before).first
+same c z h = sym (not-false _ c.if-not-is_exactly.left) ∙ c.is_exactly.ensures z h
 
 abbrev ranges : ℕ → List Range
 ranges n = parent_range n ∷ position_ranges
@@ -85,50 +85,50 @@ ranges n = parent_range n ∷ position_ranges
 narrow : (n : ℕ) → n ≤ sink_limit → AllNarrow (ranges n)
 narrow n h = (from_narrow (2 * n - 1) (omega arith) 0, (around_narrow position_limit (omega arith), (around_narrow position_limit (omega arith), tt)))
 
-node-in-range-requires : tie.Need-node-in-range-requires
-node-in-range-requires c κs = search rules
+out_of_range-requires : tie.Need-out_of_range-requires
+out_of_range-requires c κs = search rules
 
-out-of-range-requires : tie.Need-out-of-range-requires
-out-of-range-requires c κs = search rules
+returns-then-not-node_in_range : tie.Need-returns-then-not-node_in_range
+returns-then-not-node_in_range c κs = search rules
 
-returns-3 : tie.Need-returns-3
-returns-3 c =
-    let r = c.before.before in
-    let e = r.before in
-    let t = e.before.before in
-    vertex_out node_key position_ranges (start t).args.n (start t).args.k (text t) (start t).args.here.at (start t).args.here.line (start t).pre.1
-    (omega arith) (numbers t) (end t) (took t) (same e)
-    (failed r.node-in-range.result (ranges (start t).args.n) (others (numbers t)) r.node-in-range.ensures (not-true _ c.before.if2.taken))
+value-requires : tie.Need-value-requires
+value-requires c =
+    let r = c in
+    let e = r in
+    let t = e in
+    vertex_out node_key position_ranges (start t.before.before.before.before.before.before.before.before).args.n (start t.before.before.before.before.before.before.before.before).args.k (text t.before.before.before.before.before.before.before.before) (start t.before.before.before.before.before.before.before.before).args.here.at (start t.before.before.before.before.before.before.before.before).args.here.line (start t.before.before.before.before.before.before.before.before).pre.1
+    (omega arith) (numbers t.before.before.before.before.before.before.before.before) (end t.before.before.before.before.before.before.before.before) (took t) (same e.before.before.before.before.before)
+    (failed r.node_in_range.result (ranges (start t.before.before.before.before.before.before.before.before).args.n) (others (numbers t.before.before.before.before.before.before.before.before)) r.node_in_range.ensures (not-true _ c.if-not-node_in_range.taken))
     c.out_of_range.result c.out_of_range.ensures
 
 -- every number is in its range
-inside : (c : tie.Else2) → Passed (ranges (start c.before.before.before.before).args.n) (others (numbers c.before.before.before.before))
+inside : (c : tie.Else-not-node_in_range) → Passed (ranges (start c.before.before.before.before.before).args.n) (others (numbers c.before.before.before.before.before))
 inside c =
-    let t = c.before.before.before.before in
-    passed c.before.node-in-range.result (ranges (start t).args.n) (others (numbers t)) c.before.node-in-range.ensures (not-false _ c.if2.left)
+    let t = c in
+    passed c.node_in_range.result (ranges (start t.before.before.before.before.before).args.n) (others (numbers t.before.before.before.before.before)) c.node_in_range.ensures (not-false _ c.if-not-node_in_range.left)
 
-small : (c : tie.Else2) → AllSmall (ranges (start c.before.before.before.before).args.n) (others (numbers c.before.before.before.before))
+small : (c : tie.Else-not-node_in_range) → AllSmall (ranges (start c.before.before.before.before.before).args.n) (others (numbers c.before.before.before.before.before))
 small c =
-    let t = c.before.before.before.before in
-    vertex_small node_key position_ranges (start t).args.n (start t).args.k (text t) (start t).args.here.at (start t).args.here.line (start t).pre.1
-    (omega arith) (numbers t) (end t) (took t) (narrow (start t).args.n (start t).pre.3) (inside c)
-
-value-requires : tie.Need-value-requires
-value-requires c κs = (small c.before.before.before).1.0
+    let t = c in
+    vertex_small node_key position_ranges (start t.before.before.before.before.before).args.n (start t.before.before.before.before.before).args.k (text t.before.before.before.before.before) (start t.before.before.before.before.before).args.here.at (start t.before.before.before.before.before).args.here.line (start t.before.before.before.before.before).pre.1
+    (omega arith) (numbers t.before.before.before.before.before) (end t.before.before.before.before.before) (took t) (narrow (start t.before.before.before.before.before).args.n (start t.before.before.before.before.before).pre.3) (inside c)
 
 value-requires-2 : tie.Need-value-requires-2
-value-requires-2 c κs = (small c.before.before.before.before).1.1.0
+value-requires-2 c κs = (small c.before.before.before.before).1.0
 
-with-parent-requires : tie.Need-with-parent-requires
-with-parent-requires c κs = search rules
+with_parent-requires : tie.Need-with_parent-requires
+with_parent-requires c κs = (small c.before.before.before.before.before).1.1.0
+
+returns : tie.Need-returns
+returns c κs = search rules
 
 returns-4 : tie.Need-returns-4
 returns-4 c =
-    let i = c.before.before.before.before.before.before in
-    let e = i.before.before in
-    let t = e.before.before in
-    let x = c.before.before.value in
-    let y = c.before.value2 in
+    let i = c in
+    let e = i in
+    let t = e in
+    let x = c.value in
+    let y = c.value-2 in
     vertex_in node_key position_ranges (start t).args.n (start t).args.k (text t) (start t).args.here.at (start t).args.here.line (start t).pre.1
     (omega arith) (numbers t) (end t) (took t) (same e) (start t).pre.0 (narrow (start t).args.n (start t).pre.3) (inside i)
     (numbers t).second.mag (rd x.result) (rd y.result)
@@ -136,25 +136,25 @@ returns-4 c =
       parent = value_abs (numbers t).second j;
       point = record { x = sym (to_z-of_z (fit x.result x.ok) ∙ x.ensures) j; y = sym (to_z-of_z (fit y.result y.ok) ∙ y.ensures) j };
     })
-    c.with-parent.result c.with-parent.ensures
+    c.with_parent.result c.with_parent.ensures
 
 pub node_at_spec : {M : Type 1} → statement M
 node_at_spec =
     tie.close
     (tie.spec
-    slice-aggregate-read-line
-    read-line-requires
-    enum-known-numbers
-    enum_told
-    not-due-requires
-    returns
-    is-exactly-requires
-    not-due-requires-2
-    returns-2
-    node-in-range-requires
-    out-of-range-requires
-    returns-3
+    read_line-requires
+    enum_known-numbers
+    enum_told-1
+    not_due-requires
+    returns-in_default
+    is_exactly-requires
+    not_due-requires-then-not-is_exactly
+    returns-then-not-is_exactly
+    node_in_range-requires
+    out_of_range-requires
+    returns-then-not-node_in_range
     value-requires
     value-requires-2
-    with-parent-requires
+    with_parent-requires
+    returns
     returns-4)

@@ -18,28 +18,28 @@ use Rattle.formats.proofs.Laws.Listings.DueFor.{tested_as}
 use Rattle.reading.proofs.read_listing.node_in_range.Statement.{statement}
 use Rattle.reading.proofs.read_listing.node_in_range.Tie as tie
 
-mul-from-zero : tie.Need-overflow-mul-from-zero
-mul-from-zero c = search rules
+overflow_mul-n : tie.Need-overflow_mul-n
+overflow_mul-n c = search rules
 
-sub-from-zero : tie.Need-overflow-sub-from-zero
-sub-from-zero c = search rules
+overflow_sub-n : tie.Need-overflow_sub-n
+overflow_sub-n c = search rules
 
-from-zero-requires : tie.Need-from-zero-requires
-from-zero-requires c κs = search rules
+from_zero-requires : tie.Need-from_zero-requires
+from_zero-requires c κs = search rules
 
-is-inside-requires : tie.Need-is-inside-requires
-is-inside-requires c κs = subst Narrow (sym c.from_zero.ensures) (from_narrow (2 * c.before.args.n - 1) (omega arith) 0)
+is_inside-requires : tie.Need-is_inside-requires
+is_inside-requires c κs = subst Narrow (sym c.from_zero.ensures) (from_narrow (2 * c.args.n - 1) (omega arith) 0)
 
 -- how the parent was tested, and the position
-parent : (c : tie.After-is-inside) (u : Bool) → c.is-inside.result ≡ u → Tested u (parent_range c.before.before.args.n) c.before.before.args.numbers.second
+parent : (c : tie.After-is_inside) (u : Bool) → c.is_inside.result ≡ u → Tested u (parent_range c.args.n) c.args.numbers.second
 parent c u e =
-    let a = c.before.before.args in
-    tested_as c.is-inside.result u c.before.from_zero.result (parent_range a.n) a.numbers.second c.is-inside.ensures e c.before.from_zero.ensures
+    let a = c.args in
+    tested_as c.is_inside.result u c.from_zero.result (parent_range a.n) a.numbers.second c.is_inside.ensures e c.from_zero.ensures
 
-x : (c : tie.After-is-inside2) (u : Bool) → c.is-inside2.result ≡ u → Tested u (around position_limit) c.before.before.before.before.before.args.numbers.third
+x : (c : tie.After-is_inside-2) (u : Bool) → c.is_inside-2.result ≡ u → Tested u (around position_limit) c.args.numbers.third
 x c u e =
-    let a = c.before.before.before.before.before.args in
-    tested_as c.is-inside2.result u c.before.around.result (around position_limit) a.numbers.third c.is-inside2.ensures e c.before.around.ensures
+    let a = c.args in
+    tested_as c.is_inside-2.result u c.around.result (around position_limit) a.numbers.third c.is_inside-2.ensures e c.around.ensures
 
 -- the last test decides
 by_last : (n : ℕ) (ns : Numbers) (t : Bool) → Tested true (parent_range n) ns.second → Tested true (around position_limit) ns.third → Tested t (around position_limit) ns.fourth
@@ -47,46 +47,46 @@ by_last : (n : ℕ) (ns : Numbers) (t : Bool) → Tested true (parent_range n) n
 by_last n ns true p x y = (p, (x, (y, tt)))
 by_last n ns false p x y = inr (inr (inl y))
 
-returns : tie.Need-returns
-returns c = inl (parent c.before false (not-true _ c.if1.true))
+returns-then-not-is_inside : tie.Need-returns-then-not-is_inside
+returns-then-not-is_inside c = inl (parent c.before false (not-true _ c.if-not-is_inside.true))
 
 around-requires : tie.Need-around-requires
 around-requires c κs = search rules
 
-is-inside-requires-2 : tie.Need-is-inside-requires-2
-is-inside-requires-2 c κs = subst Narrow (sym c.around.ensures) (around_narrow position_limit (omega arith))
+is_inside-requires-2 : tie.Need-is_inside-requires-2
+is_inside-requires-2 c κs = subst Narrow (sym c.around.ensures) (around_narrow position_limit (omega arith))
 
-returns-2 : tie.Need-returns-2
-returns-2 c = inr (inl (x c.before false (not-true _ c.if2.true)))
+returns-then-not-is_inside-2 : tie.Need-returns-then-not-is_inside-2
+returns-then-not-is_inside-2 c = inr (inl (x c.before false (not-true _ c.if-not-is_inside-2.true)))
 
 around-requires-2 : tie.Need-around-requires-2
 around-requires-2 c κs = search rules
 
-is-inside-requires-3 : tie.Need-is-inside-requires-3
-is-inside-requires-3 c κs = subst Narrow (sym c.around2.ensures) (around_narrow position_limit (omega arith))
+is_inside-requires-3 : tie.Need-is_inside-requires-3
+is_inside-requires-3 c κs = subst Narrow (sym c.around-2.ensures) (around_narrow position_limit (omega arith))
 
-returns-3 : tie.Need-returns-3
-returns-3 c =
-    let a = c.before.before.before.before.before.before.before.before.args in
-    let second = c.before.before in
-    let first = second.before.before.before in
-    by_last a.n a.numbers c.is-inside3.result
-    (parent first.before true (not-false _ first.if1.false))
-    (x second.before true (not-false _ second.if2.false))
-    (tested_as c.is-inside3.result c.is-inside3.result c.before.around2.result (around position_limit) a.numbers.fourth c.is-inside3.ensures refl c.before.around2.ensures)
+returns : tie.Need-returns
+returns c =
+    let a = c.args in
+    let second = c in
+    let first = second in
+    by_last a.n a.numbers c.is_inside-3.result
+    (parent first.before.before.before.before.before.before.before.before true (not-false _ first.if-not-is_inside.false))
+    (x second.before.before.before.before true (not-false _ second.if-not-is_inside-2.false))
+    (tested_as c.is_inside-3.result c.is_inside-3.result c.around-2.result (around position_limit) a.numbers.fourth c.is_inside-3.ensures refl c.around-2.ensures)
 
-pub node-in-range-spec : {M : Type 1} → statement M
-node-in-range-spec =
+pub node_in_range_spec : {M : Type 1} → statement M
+node_in_range_spec =
     tie.close
     (tie.spec
-    mul-from-zero
-    sub-from-zero
-    from-zero-requires
-    is-inside-requires
-    returns
+    overflow_mul-n
+    overflow_sub-n
+    from_zero-requires
+    is_inside-requires
+    returns-then-not-is_inside
     around-requires
-    is-inside-requires-2
-    returns-2
+    is_inside-requires-2
+    returns-then-not-is_inside-2
     around-requires-2
-    is-inside-requires-3
-    returns-3)
+    is_inside-requires-3
+    returns)

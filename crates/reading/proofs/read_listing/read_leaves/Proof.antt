@@ -10,44 +10,44 @@ use Rattle.formats.proofs.Laws.Listings.ListingLines.{LinesTo, lines_start, line
 use Rattle.reading.proofs.read_listing.read_leaves.Statement.{statement}
 use Rattle.reading.proofs.read_listing.read_leaves.Tie as tie
 
-abbrev invariant-loop : tie.invariant-loop
-invariant-loop text n parents₀ here₀ k₀ parents here k =
+abbrev invariant-loop-k : tie.invariant-loop-k
+invariant-loop-k text n parents₀ here₀ k₀ parents here k =
     (1 ≤ k) × (k ≤ n + 1) × (here.at ≤ length text) × (here.line ≡ k + 3) × (length parents ≡ length parents₀)
     × LinesTo (λ v. v.parent) (due_leaf n) (leaves_in n (drop here₀.at text)) (λ v. get_or parents v 0) 1 n text here.at k
 
-abbrev decreases-loop : tie.decreases-loop
-decreases-loop text n parents₀ here₀ k₀ parents here k = n + 1 - k
+abbrev decreases-loop-k : tie.decreases-loop-k
+decreases-loop-k text n parents₀ here₀ k₀ parents here k = n + 1 - k
 
-loop-holds : tie.Need-loop-init invariant-loop decreases-loop
-loop-holds c =
-    let b = c.before.before in
+loop-k-init : tie.Need-loop-k-init invariant-loop-k decreases-loop-k
+loop-k-init c =
+    let b = c in
     let a = b.args in
     (omega arith, omega arith, b.requires.0, b.requires.1, refl, lines_start (λ v. v.parent) (due_leaf a.n) 1 a.n a.text.now (λ v. get_or a.parents.now v 0) a.from.at 1 refl)
 
-leaf-at-requires : tie.Need-leaf-at-requires invariant-loop decreases-loop
-leaf-at-requires c κs = omega arith
+leaf_at-requires : tie.Need-leaf_at-requires invariant-loop-k decreases-loop-k
+leaf_at-requires c κs = omega arith
 
-enum-known-parent : tie.Need-enum-known-parent invariant-loop decreases-loop
-enum-known-parent c = search rules
+enum_known-parent : tie.Need-enum_known-parent invariant-loop-k decreases-loop-k
+enum_known-parent c = search rules
 
-mul-parents : tie.Need-overflow-mul-parents invariant-loop decreases-loop
-mul-parents c = omega arith
+offset_bounds-parents-k : tie.Need-offset_bounds-parents-k invariant-loop-k decreases-loop-k
+offset_bounds-parents-k c = omega arith
 
-slice-write-parents : tie.Need-slice-write-parents invariant-loop decreases-loop
-slice-write-parents c = omega arith
+bounds-parents-k : tie.Need-bounds-parents-k invariant-loop-k decreases-loop-k
+bounds-parents-k c = omega arith
 
-add-k : tie.Need-overflow-add-k invariant-loop decreases-loop
-add-k c = omega arith
+overflow_add-k : tie.Need-overflow_add-k invariant-loop-k decreases-loop-k
+overflow_add-k c = omega arith
 
-loop-less : tie.Need-loop-smaller invariant-loop decreases-loop
-loop-less c = omega arith
+loop-k-smaller : tie.Need-loop-k-smaller invariant-loop-k decreases-loop-k
+loop-k-smaller c = omega arith
 
-loop-again : tie.Need-loop-preserved invariant-loop decreases-loop
-loop-again c =
-    let r = c.before.before.before.leaf-at in
-    let w = c.before.before.before.before.before.loop in
-    let a = c.before.before.before.before.before.before.before.before.args in
-    let g = c.before.parent.given in
+loop-k-preserved : tie.Need-loop-k-preserved invariant-loop-k decreases-loop-k
+loop-k-preserved c =
+    let r = c.leaf_at in
+    let w = c.loop-k in
+    let a = c.args in
+    let g = c.parent-1.given in
     let m = subst (VertexSays (due_leaf a.n w.k (drop w.here.at a.text.now)) a.text.now w.here.line) g.1 r.ensures in (
       omega arith,
       omega arith,
@@ -59,50 +59,50 @@ loop-again c =
           (λ v. get_or (set w.parents w.k g.0.0) v 0) (parent_below w.parents w.k g.0.0) (parent_here w.parents w.k g.0.0 (omega arith)),
     )
 
-enum-known-refusal : tie.Need-enum-known-refusal invariant-loop decreases-loop
-enum-known-refusal c = search rules
+enum_known-refusal : tie.Need-enum_known-refusal invariant-loop-k decreases-loop-k
+enum_known-refusal c = search rules
 
-same_length : tie.Need-same-length invariant-loop decreases-loop
-same_length c = search rules
+shape_of-parents-in-VertexRefused : tie.Need-shape_of-parents-in-VertexRefused invariant-loop-k decreases-loop-k
+shape_of-parents-in-VertexRefused c = search rules
 
-returns : tie.Need-returns invariant-loop decreases-loop
-returns c =
-    let r = c.before.before.before.leaf-at in
-    let w = c.before.before.before.before.before.loop in
-    let a = c.before.before.before.before.before.before.before.before.args in
-    let g = c.before.refusal.given in
+returns-in-VertexRefused : tie.Need-returns-in-VertexRefused invariant-loop-k decreases-loop-k
+returns-in-VertexRefused c =
+    let r = c.leaf_at in
+    let w = c.loop-k in
+    let a = c.args in
+    let g = c.refusal-1.given in
     lines_refused (λ v. v.parent) (due_leaf a.n) 1 a.n a.text.now (leaves_in a.n (drop a.from.at a.text.now)) (λ v. get_or w.parents v 0) w.here.at w.k w.invariant.5
     g.0.0 (omega arith) (subst (VertexSays (due_leaf a.n w.k (drop w.here.at a.text.now)) a.text.now w.here.line) g.1 r.ensures)
 
-same-length-2 : tie.Need-same-length-2 invariant-loop decreases-loop
-same-length-2 c = search rules
+shape_of-parents : tie.Need-shape_of-parents invariant-loop-k decreases-loop-k
+shape_of-parents c = search rules
 
-returns-2 : tie.Need-returns-2 invariant-loop decreases-loop
-returns-2 c =
-    let w = c.before.loop in
-    let a = c.before.before.before.before.args in
+returns : tie.Need-returns invariant-loop-k decreases-loop-k
+returns c =
+    let w = c.loop-k in
+    let a = c.args in
     record {
       reads = lines_all (λ v. v.parent) (due_leaf a.n) 1 a.n a.text.now (leaves_in a.n (drop a.from.at a.text.now)) (λ v. get_or w.parents v 0) w.here.at w.k w.invariant.5 (omega arith);
       within = w.invariant.2;
       line_is = omega (arith, w.invariant.3);
     }
 
-pub read-leaves-spec : {M : Type 1} → statement M
-read-leaves-spec =
+pub read_leaves_spec : {M : Type 1} → statement M
+read_leaves_spec =
     tie.close
     (tie.spec
-    invariant-loop
-    decreases-loop
-    loop-holds
-    leaf-at-requires
-    enum-known-parent
-    mul-parents
-    slice-write-parents
-    add-k
-    loop-less
-    loop-again
-    enum-known-refusal
-    same_length
-    returns
-    same-length-2
-    returns-2)
+    invariant-loop-k
+    decreases-loop-k
+    loop-k-init
+    leaf_at-requires
+    enum_known-parent
+    offset_bounds-parents-k
+    bounds-parents-k
+    overflow_add-k
+    loop-k-smaller
+    loop-k-preserved
+    enum_known-refusal
+    shape_of-parents-in-VertexRefused
+    returns-in-VertexRefused
+    shape_of-parents
+    returns)

@@ -14,22 +14,22 @@ use Rattle.formats.proofs.Laws.Listings.ListingLines.{LinesTo, Kept, kept_more, 
 use Rattle.reading.proofs.read_listing.read_nodes.Statement.{statement}
 use Rattle.reading.proofs.read_listing.read_nodes.Tie as tie
 
-abbrev invariant-loop : tie.invariant-loop
-invariant-loop text n parents₀ xs₀ ys₀ here₀ k₀ parents xs ys here k =
+abbrev invariant-loop-k : tie.invariant-loop-k
+invariant-loop-k text n parents₀ xs₀ ys₀ here₀ k₀ parents xs ys here k =
     (n < k) × (k ≤ 2 * n) × (here.at ≤ length text) × (here.line ≡ k + 3)
     × ((length parents ≡ length parents₀) × (length xs ≡ length xs₀) × (length ys ≡ length ys₀))
     × (Kept 0 n parents₀ parents × Kept (pos 0) n xs₀ xs × Kept (pos 0) n ys₀ ys)
     × LinesTo (λ v. v) (due_node n) (nodes_in n (drop here₀.at text)) (vertex_held parents xs ys) (suc n) (n - 1) text here.at k
 
-abbrev decreases-loop : tie.decreases-loop
-decreases-loop text n parents₀ xs₀ ys₀ here₀ k₀ parents xs ys here k = 2 * n - k
+abbrev decreases-loop-k : tie.decreases-loop-k
+decreases-loop-k text n parents₀ xs₀ ys₀ here₀ k₀ parents xs ys here k = 2 * n - k
 
-add-k : tie.Need-overflow-add-k invariant-loop decreases-loop
-add-k c = omega arith
+overflow_add-k : tie.Need-overflow_add-k invariant-loop-k decreases-loop-k
+overflow_add-k c = omega arith
 
-loop-holds : tie.Need-loop-init invariant-loop decreases-loop
-loop-holds c =
-    let b = c.before.before in
+loop-k-init : tie.Need-loop-k-init invariant-loop-k decreases-loop-k
+loop-k-init c =
+    let b = c in
     let a = b.args in (
       omega arith,
       omega arith,
@@ -41,47 +41,47 @@ loop-holds c =
           ∙ lines_start (λ v. v) (due_node a.n) (suc a.n) (a.n - 1) a.text.now (vertex_held a.parents.now a.xs.now a.ys.now) a.from.at (a.n + 1) (omega arith),
     )
 
-mul-loop : tie.Need-overflow-mul-loop invariant-loop decreases-loop
-mul-loop c = omega arith
+overflow_mul-n : tie.Need-overflow_mul-n invariant-loop-k decreases-loop-k
+overflow_mul-n c = omega arith
 
-node-at-requires : tie.Need-node-at-requires invariant-loop decreases-loop
-node-at-requires c κs = omega arith
+node_at-requires : tie.Need-node_at-requires invariant-loop-k decreases-loop-k
+node_at-requires c κs = omega arith
 
-enum-known-parent : tie.Need-enum-known-parent invariant-loop decreases-loop
-enum-known-parent c = search rules
+enum_known-parent : tie.Need-enum_known-parent invariant-loop-k decreases-loop-k
+enum_known-parent c = search rules
 
-mul-parents : tie.Need-overflow-mul-parents invariant-loop decreases-loop
-mul-parents c = omega arith
+offset_bounds-parents-k : tie.Need-offset_bounds-parents-k invariant-loop-k decreases-loop-k
+offset_bounds-parents-k c = omega arith
 
-slice-write-parents : tie.Need-slice-write-parents invariant-loop decreases-loop
-slice-write-parents c = omega arith
+bounds-parents-k : tie.Need-bounds-parents-k invariant-loop-k decreases-loop-k
+bounds-parents-k c = omega arith
 
-mul-x : tie.Need-overflow-mul-x invariant-loop decreases-loop
-mul-x c = omega arith
+offset_bounds-xs-k : tie.Need-offset_bounds-xs-k invariant-loop-k decreases-loop-k
+offset_bounds-xs-k c = omega arith
 
-slice-set-from-x : tie.Need-slice-set-from-x invariant-loop decreases-loop
-slice-set-from-x c = omega arith
+bounds-xs-k : tie.Need-bounds-xs-k invariant-loop-k decreases-loop-k
+bounds-xs-k c = omega arith
 
-mul-y : tie.Need-overflow-mul-y invariant-loop decreases-loop
-mul-y c = omega arith
+offset_bounds-ys-k : tie.Need-offset_bounds-ys-k invariant-loop-k decreases-loop-k
+offset_bounds-ys-k c = omega arith
 
-slice-set-from-y : tie.Need-slice-set-from-y invariant-loop decreases-loop
-slice-set-from-y c = omega arith
+bounds-ys-k : tie.Need-bounds-ys-k invariant-loop-k decreases-loop-k
+bounds-ys-k c = omega arith
 
-add-k-2 : tie.Need-overflow-add-k-2 invariant-loop decreases-loop
-add-k-2 c = omega arith
+overflow_add-k-in-VertexRead : tie.Need-overflow_add-k-in-VertexRead invariant-loop-k decreases-loop-k
+overflow_add-k-in-VertexRead c = omega arith
 
-loop-less : tie.Need-loop-smaller invariant-loop decreases-loop
-loop-less c = omega arith
+loop-k-smaller : tie.Need-loop-k-smaller invariant-loop-k decreases-loop-k
+loop-k-smaller c = omega arith
 
-loop-again : tie.Need-loop-preserved invariant-loop decreases-loop
-loop-again c =
-    let r = c.before.before.before.Node-at in
-    let w = c.before.before.before.before.before.loop in
-    let a = c.before.before.before.before.before.before.before.before.args in
-    let g = c.before.parent.given in
-    let x = to_z-of_z (fit g.0.1.0 c.known-told.given.1.0.1) in
-    let y = to_z-of_z (fit g.0.1.1.0 c.known-told.given.1.1.0.1) in
+loop-k-preserved : tie.Need-loop-k-preserved invariant-loop-k decreases-loop-k
+loop-k-preserved c =
+    let r = c.Node-at in
+    let w = c.loop-k in
+    let a = c.args in
+    let g = c.parent-1.given in
+    let x = to_z-of_z (fit g.0.1.0 c.known_told-1.given.1.0.1) in
+    let y = to_z-of_z (fit g.0.1.1.0 c.known_told-1.given.1.1.0.1) in
     let m = subst (VertexSays (due_node a.n w.k (drop w.here.at a.text.now)) a.text.now w.here.line) g.1 r.ensures in (
       omega arith,
       omega arith,
@@ -101,42 +101,42 @@ loop-again c =
           (vertex_here w.parents w.xs w.ys w.k g.0.0 (rd g.0.1.0) (rd g.0.1.1.0) (omega arith) (omega arith) (omega arith)),
     )
 
-enum-known-refusal : tie.Need-enum-known-refusal invariant-loop decreases-loop
-enum-known-refusal c = search rules
+enum_known-refusal : tie.Need-enum_known-refusal invariant-loop-k decreases-loop-k
+enum_known-refusal c = search rules
 
-same_length : tie.Need-same-length invariant-loop decreases-loop
-same_length c = omega arith
+shape_of-parents-in-VertexRefused : tie.Need-shape_of-parents-in-VertexRefused invariant-loop-k decreases-loop-k
+shape_of-parents-in-VertexRefused c = omega arith
 
-same-length-2 : tie.Need-same-length-2 invariant-loop decreases-loop
-same-length-2 c = omega arith
+shape_of-xs-in-VertexRefused : tie.Need-shape_of-xs-in-VertexRefused invariant-loop-k decreases-loop-k
+shape_of-xs-in-VertexRefused c = omega arith
 
-same-length-3 : tie.Need-same-length-3 invariant-loop decreases-loop
-same-length-3 c = omega arith
+shape_of-ys-in-VertexRefused : tie.Need-shape_of-ys-in-VertexRefused invariant-loop-k decreases-loop-k
+shape_of-ys-in-VertexRefused c = omega arith
 
-returns : tie.Need-returns invariant-loop decreases-loop
-returns c =
-    let r = c.before.before.before.Node-at in
-    let w = c.before.before.before.before.before.loop in
-    let a = c.before.before.before.before.before.before.before.before.args in
-    let g = c.before.refusal.given in (
+returns-in-VertexRefused : tie.Need-returns-in-VertexRefused invariant-loop-k decreases-loop-k
+returns-in-VertexRefused c =
+    let r = c.Node-at in
+    let w = c.loop-k in
+    let a = c.args in
+    let g = c.refusal-1.given in (
       lines_refused (λ v. v) (due_node a.n) (suc a.n) (a.n - 1) a.text.now (nodes_in a.n (drop a.from.at a.text.now)) (vertex_held w.parents w.xs w.ys) w.here.at w.k w.invariant.6
           g.0.0 (omega arith) (subst (VertexSays (due_node a.n w.k (drop w.here.at a.text.now)) a.text.now w.here.line) g.1 r.ensures),
       (w.invariant.5.0, λ v h i. record { x = w.invariant.5.1 v h i; y = w.invariant.5.2 v h i }),
     )
 
-same-length-4 : tie.Need-same-length-4 invariant-loop decreases-loop
-same-length-4 c = omega arith
+shape_of-parents : tie.Need-shape_of-parents invariant-loop-k decreases-loop-k
+shape_of-parents c = omega arith
 
-same-length-5 : tie.Need-same-length-5 invariant-loop decreases-loop
-same-length-5 c = omega arith
+shape_of-xs : tie.Need-shape_of-xs invariant-loop-k decreases-loop-k
+shape_of-xs c = omega arith
 
-same-length-6 : tie.Need-same-length-6 invariant-loop decreases-loop
-same-length-6 c = omega arith
+shape_of-ys : tie.Need-shape_of-ys invariant-loop-k decreases-loop-k
+shape_of-ys c = omega arith
 
-returns-2 : tie.Need-returns-2 invariant-loop decreases-loop
-returns-2 c =
-    let w = c.before.loop in
-    let a = c.before.before.before.before.args in (
+returns : tie.Need-returns invariant-loop-k decreases-loop-k
+returns c =
+    let w = c.loop-k in
+    let a = c.args in (
       record {
         reads = lines_all (λ v. v) (due_node a.n) (suc a.n) (a.n - 1) a.text.now (nodes_in a.n (drop a.from.at a.text.now)) (vertex_held w.parents w.xs w.ys) w.here.at w.k w.invariant.6 (omega arith);
         within = w.invariant.2;
@@ -145,32 +145,32 @@ returns-2 c =
       (w.invariant.5.0, λ v h i. record { x = w.invariant.5.1 v h i; y = w.invariant.5.2 v h i }),
     )
 
-pub read-nodes-spec : {M : Type 1} → statement M
-read-nodes-spec =
+pub read_nodes_spec : {M : Type 1} → statement M
+read_nodes_spec =
     tie.close
     (tie.spec
-    invariant-loop
-    decreases-loop
-    add-k
-    loop-holds
-    mul-loop
-    node-at-requires
-    enum-known-parent
-    mul-parents
-    slice-write-parents
-    mul-x
-    slice-set-from-x
-    mul-y
-    slice-set-from-y
-    add-k-2
-    loop-less
-    loop-again
-    enum-known-refusal
-    same_length
-    same-length-2
-    same-length-3
-    returns
-    same-length-4
-    same-length-5
-    same-length-6
-    returns-2)
+    invariant-loop-k
+    decreases-loop-k
+    overflow_add-k
+    loop-k-init
+    overflow_mul-n
+    node_at-requires
+    enum_known-parent
+    offset_bounds-parents-k
+    bounds-parents-k
+    offset_bounds-xs-k
+    bounds-xs-k
+    offset_bounds-ys-k
+    bounds-ys-k
+    overflow_add-k-in-VertexRead
+    loop-k-smaller
+    loop-k-preserved
+    enum_known-refusal
+    shape_of-parents-in-VertexRefused
+    shape_of-xs-in-VertexRefused
+    shape_of-ys-in-VertexRefused
+    returns-in-VertexRefused
+    shape_of-parents
+    shape_of-xs
+    shape_of-ys
+    returns)

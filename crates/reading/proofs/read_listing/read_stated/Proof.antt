@@ -20,70 +20,70 @@ use Rattle.formats.proofs.Laws.Listings.ListingLines.{stated_by, slack_refused, 
 use Rattle.reading.proofs.read_listing.read_stated.Statement.{statement}
 use Rattle.reading.proofs.read_listing.read_stated.Tie as tie
 
-slice-aggregate-read-number : tie.Need-slice-aggregate-read-number
-slice-aggregate-read-number c = search rules
-
 around-requires : tie.Need-around-requires
-around-requires c κs = search rules
+around-requires c = search rules
 
-read-number-requires : tie.Need-read-number-requires
-read-number-requires c κs = (omega arith, omega arith, subst Narrow (sym c.around.ensures) (around_narrow slack_limit (omega arith)))
+read_number-requires : tie.Need-read_number-requires
+read_number-requires c κs = search rules
 
-enum-known-refusal : tie.Need-enum-known-refusal
-enum-known-refusal c = search rules
+enum_known-refusal : tie.Need-enum_known-refusal
+enum_known-refusal c κs = (omega arith, omega arith, subst Narrow (sym c.around.ensures) (around_narrow slack_limit (omega arith)))
 
-enum-known-value : tie.Need-enum-known-value
-enum-known-value c = search rules
+enum_known-value : tie.Need-enum_known-value
+enum_known-value c = search rules
 
-abbrev start : tie.After-known-told2 → tie.Start
+of-requires : tie.Need-of-requires
+of-requires c = search rules
+
+abbrev start : tie.In-NumberRead → tie.Start
 start t = t.before.before.before.before.before.before.before
 
 -- the line has a number in its range
-taken : (t : tie.After-known-told2) → NumberTaken InListing slack_key (around slack_limit) (start t).args.text.now (record { at = 0; line = 1 }) t.before.value.given.0.0 t.before.value.given.0.1.0
+taken : (t : tie.In-NumberRead) → NumberTaken InListing slack_key (around slack_limit) (start t).args.text.now (record { at = 0; line = 1 }) t.value-1.given.0.0 t.value-1.given.0.1.0
 taken t =
     let a = (start t).args in
     let g = t.before.value.given in
     said_taken InListing slack_key _ (around slack_limit) t.before.before.before.before.around.ensures a.text.now (record { at = 0; line = 1 }) _ t.before.before.before.read_number.ensures g.0.0 g.0.1.0 g.1
 
 -- so that it is read back as it is
-small : (t : tie.After-known-told2) → SFits w64 t.before.value.given.0.0
+small : (t : tie.In-NumberRead) → SFits w64 t.value-1.given.0.0
 small t =
     let b = inside_bounds (around slack_limit) t.before.value.given.0.0 (taken t).in_range in
     omega (arith, whole, b.0, b.1, neg_up (pos slack_limit), neg_dn (pos slack_limit))
 
-of-requires : tie.Need-of-requires
-of-requires c κs = search rules
+read_total-requires : tie.Need-read_total-requires
+read_total-requires c κs = search rules
 
-read-total-requires : tie.Need-read-total-requires
-read-total-requires c κs =
+returns-in-NumberRefused : tie.Need-returns-in-NumberRefused
+returns-in-NumberRefused c κs =
     let t = (taken c.before).read_to in
     (t.within, t.line_is)
 
-returns : tie.Need-returns
-returns c =
-    let a = c.before.before.before.before.before.before.before.args in
-    let g = c.before.refusal.given in
+returns-in-NumberRead : tie.Need-returns-in-NumberRead
+returns-in-NumberRead c =
+    let a = c.args in
+    let g = c.refusal-1.given in
     slack_refused a.n a.text.now g.0.0
-    (said_refused InListing slack_key _ (around slack_limit) c.before.before.before.before.around.ensures a.text.now (record { at = 0; line = 1 }) _ c.before.before.before.read_number.ensures g.0.0 g.1)
+    (said_refused InListing slack_key _ (around slack_limit) c.around.ensures a.text.now (record { at = 0; line = 1 }) _ c.read_number.ensures g.0.0 g.1)
 
 returns-2 : tie.Need-returns-2
 returns-2 c =
-    let t = c.before.before in
+    let t = c in
     let a = (start t).args in
-    stated_by _ _ a.text.now c.read-total.result
-    (slack_read a.n a.text.now t.before.value.given.0.0 _ _ (taken t).read_to.reads (c.before.of.ensures ∙ to_z-of_z (small t)))
-    c.read-total.ensures
+    stated_by _ _ a.text.now c.read_total.result
+    (slack_read a.n a.text.now t.value-1.given.0.0 _ _ (taken t).read_to.reads (c.of.ensures ∙ to_z-of_z (small t)))
+    c.read_total.ensures
 
-pub read-stated-spec : {M : Type 1} → statement M
-read-stated-spec =
+pub read_stated_spec : {M : Type 1} → statement M
+read_stated_spec =
     tie.close
     (tie.spec
-    slice-aggregate-read-number
     around-requires
-    read-number-requires
-    enum-known-refusal
-    enum-known-value
+    read_number-requires
+    enum_known-refusal
+    enum_known-value
     of-requires
-    read-total-requires
-    returns
+    read_total-requires
+    returns-in-NumberRefused
+    returns-in-NumberRead
     returns-2)

@@ -21,79 +21,79 @@ use Rattle.formats.proofs.Laws.Listings.ListingLines.{stated_by, total_refused, 
 use Rattle.reading.proofs.read_listing.read_total.Statement.{statement}
 use Rattle.reading.proofs.read_listing.read_total.Tie as tie
 
-slice-aggregate-read-number : tie.Need-slice-aggregate-read-number
-slice-aggregate-read-number c = search rules
+from_zero-requires : tie.Need-from_zero-requires
+from_zero-requires c = search rules
 
-from-zero-requires : tie.Need-from-zero-requires
-from-zero-requires c κs = search rules
+read_number-requires : tie.Need-read_number-requires
+read_number-requires c κs = search rules
 
-read-number-requires : tie.Need-read-number-requires
-read-number-requires c κs =
-    let p = c.before.before.before.requires in
+enum_known-refusal : tie.Need-enum_known-refusal
+enum_known-refusal c κs =
+    let p = c.requires in
     (p.0, omega (arith, p.1), subst Narrow (sym c.from_zero.ensures) (from_narrow wire_limit (omega arith) 0))
 
-enum-known-refusal : tie.Need-enum-known-refusal
-enum-known-refusal c = search rules
+enum_known-value : tie.Need-enum_known-value
+enum_known-value c = search rules
 
-enum-known-value : tie.Need-enum-known-value
-enum-known-value c = search rules
+overflow_cast-value : tie.Need-overflow_cast-value
+overflow_cast-value c = search rules
 
-abbrev start : tie.After-known-told2 → tie.Start
+abbrev start : tie.In-NumberRead → tie.Start
 start t = t.before.before.before.before.before.before.before
 
 -- the line has a number in its range
-taken : (t : tie.After-known-told2) → NumberTaken InListing wire_key (from_zero wire_limit) (start t).args.text.now (start t).args.here t.before.value.given.0.0 t.before.value.given.0.1.0
+taken : (t : tie.In-NumberRead) → NumberTaken InListing wire_key (from_zero wire_limit) (start t).args.text.now (start t).args.here t.value-1.given.0.0 t.value-1.given.0.1.0
 taken t =
     let a = (start t).args in
     let g = t.before.value.given in
     said_taken InListing wire_key _ (from_zero wire_limit) t.before.before.before.before.from_zero.ensures a.text.now a.here _ t.before.before.before.read_number.ensures g.0.0 g.0.1.0 g.1
 
 -- so that it is read back as it is
-small : (t : tie.After-known-told2) → SFits w64 t.before.value.given.0.0
+small : (t : tie.In-NumberRead) → SFits w64 t.value-1.given.0.0
 small t = let b = inside_bounds (from_zero wire_limit) t.before.value.given.0.0 (taken t).in_range in omega (arith, whole, b.0, b.1)
 
-cast-of : tie.Need-overflow-cast-of
-cast-of c =
-    let z = c.before.value.given.0.0 in
+of-requires : tie.Need-of-requires
+of-requires c =
+    let z = c.value-1.given.0.0 in
     let b = inside_bounds (from_zero wire_limit) z (taken c).in_range in
     rw (to_z-of_z (small c)) (omega (arith, whole, b.0, b.1), omega (arith, whole, nat_abs_is z, b.0, b.1))
 
-of-requires : tie.Need-of-requires
-of-requires c κs = search rules
+read_same-requires : tie.Need-read_same-requires
+read_same-requires c κs = search rules
 
-read-same-requires : tie.Need-read-same-requires
-read-same-requires c κs =
+returns-in-NumberRefused : tie.Need-returns-in-NumberRefused
+returns-in-NumberRefused c κs =
     let t = (taken c.before).read_to in
     (t.within, omega (arith, t.line_is, (start c.before).requires.1))
 
-returns : tie.Need-returns
-returns c =
-    let b = c.before.before.before.before.before.before.before in
+returns-in-NumberRead : tie.Need-returns-in-NumberRead
+returns-in-NumberRead c =
+    let b = c in
     let a = b.args in
-    let g = c.before.refusal.given in
+    let g = c.refusal-1.given in
     total_refused a.n a.slack.0 (drop a.here.at a.text.now) a.here.line b.requires.1 g.0.0
-    (said_refused InListing wire_key _ (from_zero wire_limit) c.before.before.before.before.from_zero.ensures a.text.now a.here _ c.before.before.before.read_number.ensures g.0.0 g.1)
+    (said_refused InListing wire_key _ (from_zero wire_limit) c.from_zero.ensures a.text.now a.here _ c.read_number.ensures g.0.0 g.1)
 
 returns-2 : tie.Need-returns-2
 returns-2 c =
-    let t = c.before.before in
+    let t = c in
     let a = (start t).args in
     stated_by _ _ a.text.now c.read_same.result
-    (total_read a.n a.slack.0 (drop a.here.at a.text.now) a.here.line (start t).requires.1 t.before.value.given.0.0 _ _ (taken t).read_to.reads
-    (c.before.of.ensures ∙ ap nat_abs (to_z-of_z (small t))))
+    (total_read a.n a.slack.0 (drop a.here.at a.text.now) a.here.line (start t).requires.1 t.value-1.given.0.0 _ _ (taken t).read_to.reads
+    (c.of.ensures ∙ ap nat_abs (to_z-of_z (small t))))
     c.read_same.ensures
 
-pub read-total-spec : {M : Type 1} → statement M
-read-total-spec =
+pub read_total_spec : {M : Type 1} → statement M
+read_total_spec =
     tie.close
     (tie.spec
-    slice-aggregate-read-number
-    from-zero-requires
-    read-number-requires
-    enum-known-refusal
-    enum-known-value
-    cast-of
+    from_zero-requires
+    read_number-requires
+    enum_known-refusal
+    enum_known-value
+    overflow_cast-value
     of-requires
-    read-same-requires
-    returns
+    read_same-requires
+    returns-in-NumberRefused
+    returns-in-NumberRead
     returns-2)

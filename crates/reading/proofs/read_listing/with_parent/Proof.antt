@@ -8,19 +8,19 @@ use Rattle.formats.specs.declared.read_listing.VertexLine.TheVariants.{VertexRea
 use Rattle.reading.proofs.read_listing.with_parent.Statement.{statement}
 use Rattle.reading.proofs.read_listing.with_parent.Tie as tie
 
-is-sink-requires : tie.Need-is-sink-requires
-is-sink-requires c κs = search rules
+is_sink-requires : tie.Need-is_sink-requires
+is_sink-requires c κs = search rules
+
+returns-then-is_sink : tie.Need-returns-then-is_sink
+returns-then-is_sink c =
+    let a = c.args in
+    ap (λ t. cond t (VertexRefused (SinkParent a.line)) (VertexRead a.parent a.x a.y a.next)) (sym c.if-is_sink.true ∙ c.is_sink.ensures)
 
 returns : tie.Need-returns
 returns c =
-    let a = c.before.before.args in
-    ap (λ t. cond t (VertexRefused (SinkParent a.line)) (VertexRead a.parent a.x a.y a.next)) (sym c.if1.true ∙ c.before.is-sink.ensures)
+    let a = c.args in
+    (λ i. VertexRead a.parent (to_z-of_z c.ranges.x i) (to_z-of_z c.ranges.y i) a.next)
+    ∙ ap (λ t. cond t (VertexRefused (SinkParent a.line)) (VertexRead a.parent a.x a.y a.next)) (sym c.if-is_sink.false ∙ c.is_sink.ensures)
 
-returns-2 : tie.Need-returns-2
-returns-2 c =
-    let a = c.before.before.args in
-    (λ i. VertexRead a.parent (to_z-of_z c.before.before.ranges.x i) (to_z-of_z c.before.before.ranges.y i) a.next)
-    ∙ ap (λ t. cond t (VertexRefused (SinkParent a.line)) (VertexRead a.parent a.x a.y a.next)) (sym c.if1.false ∙ c.before.is-sink.ensures)
-
-pub with-parent-spec : {M : Type 1} → statement M
-with-parent-spec = tie.close (tie.spec is-sink-requires returns returns-2)
+pub with_parent_spec : {M : Type 1} → statement M
+with_parent_spec = tie.close (tie.spec is_sink-requires returns-then-is_sink returns)

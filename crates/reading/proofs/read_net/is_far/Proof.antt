@@ -12,14 +12,14 @@ of-requires c κs = search rules
 
 distance-requires : tie.Need-distance-requires
 distance-requires c κs =
-    let h = c.before.requires in
+    let h = c.requires in
     (((omega (arith, whole), omega (arith, whole)), (omega (arith, whole), omega (arith, whole))), ((omega (arith, whole), omega (arith, whole)), (omega (arith, whole), omega (arith, whole))))
 
-is-less-requires : tie.Need-is-less-requires
-is-less-requires c κs = search rules
+is_less-requires : tie.Need-is_less-requires
+is_less-requires c κs = search rules
 
 returns : tie.Need-returns
-returns c = c.is-less.ensures ∙ ap₂ ltb c.before.before.of.ensures c.before.distance.ensures
+returns c = c.is_less.ensures ∙ ap₂ ltb c.of.ensures c.distance.ensures
 
-pub is-far-spec : {M : Type 1} → statement M
-is-far-spec = tie.close (tie.spec of-requires distance-requires is-less-requires returns)
+pub is_far_spec : {M : Type 1} → statement M
+is_far_spec = tie.close (tie.spec of-requires distance-requires is_less-requires returns)

@@ -20,71 +20,71 @@ use borrow.Author.Rules.{rules}
 use Rattle.reading.proofs.read_net.read_branch.Statement.{statement}
 use Rattle.reading.proofs.read_net.read_branch.Tie as tie
 
-slice-aggregate-read-number : tie.Need-slice-aggregate-read-number
-slice-aggregate-read-number c = search rules
+up_to-requires : tie.Need-up_to-requires
+up_to-requires c = search rules
 
-up-to-requires : tie.Need-up-to-requires
-up-to-requires c κs = search rules
+read_number-requires : tie.Need-read_number-requires
+read_number-requires c κs = search rules
 
-read-number-requires : tie.Need-read-number-requires
-read-number-requires c κs =
-    let p = c.before.before.before.requires in
-    (p.0, omega (arith, p.1), subst Narrow (sym c.up-to.ensures) (from_narrow branch_limit (omega arith) 1))
+enum_known-refusal : tie.Need-enum_known-refusal
+enum_known-refusal c κs =
+    let p = c.requires in
+    (p.0, omega (arith, p.1), subst Narrow (sym c.up_to.ensures) (from_narrow branch_limit (omega arith) 1))
 
-enum-known-refusal : tie.Need-enum-known-refusal
-enum-known-refusal c = search rules
+enum_known-value : tie.Need-enum_known-value
+enum_known-value c = search rules
 
-enum-known-value : tie.Need-enum-known-value
-enum-known-value c = search rules
+of-requires : tie.Need-of-requires
+of-requires c = search rules
 
 -- the line has a number in its range
-abbrev next : tie.After-known-told2 → Place
+abbrev next : tie.In-NumberRead → Place
 next t = t.before.value.given.0.1.0
 
-taken : (t : tie.After-known-told2) → NumberTaken InNet branch_key (up_to branch_limit) t.before.before.before.before.before.before.before.args.text.now t.before.before.before.before.before.before.before.args.here t.before.value.given.0.0 (next t)
+taken : (t : tie.In-NumberRead) → NumberTaken InNet branch_key (up_to branch_limit) t.args.text.now t.args.here t.value-1.given.0.0 (next t)
 taken t =
     let a = t.before.before.before.before.before.before.before.args in
     let g = t.before.value.given in
-    said_taken InNet branch_key _ (up_to branch_limit) t.before.before.before.before.up-to.ensures a.text.now a.here _ t.before.before.before.read_number.ensures g.0.0 g.0.1.0 g.1
+    said_taken InNet branch_key _ (up_to branch_limit) t.before.before.before.before.up_to.ensures a.text.now a.here _ t.before.before.before.read_number.ensures g.0.0 g.0.1.0 g.1
 
-small : (t : tie.After-known-told2) → SFits w64 t.before.value.given.0.0
+small : (t : tie.In-NumberRead) → SFits w64 t.value-1.given.0.0
 small t = let b = inside_bounds (up_to branch_limit) t.before.value.given.0.0 (taken t).in_range in omega (arith, whole, b.0, b.1)
 
-of-requires : tie.Need-of-requires
-of-requires c κs = search rules
+read_wire-requires : tie.Need-read_wire-requires
+read_wire-requires c κs = search rules
 
-read-wire-requires : tie.Need-read-wire-requires
-read-wire-requires c κs =
-    let b = c.before.before.before.before.before.before.before.before in
+returns-in-NumberRefused : tie.Need-returns-in-NumberRefused
+returns-in-NumberRefused c κs =
+    let b = c in
     let t = (taken c.before).read_to in
     (t.within, omega (arith, t.line_is, b.requires.1), b.requires.2)
 
-returns : tie.Need-returns
-returns c =
-    let b = c.before.before.before.before.before.before.before in
+returns-in-NumberRead : tie.Need-returns-in-NumberRead
+returns-in-NumberRead c =
+    let b = c in
     let a = b.args in
-    let g = c.before.refusal.given in
-    branch_refused a.text.now a.here a.root b.requires.1 g.0.0 (said_refused InNet branch_key _ (up_to branch_limit) c.before.before.before.before.up-to.ensures a.text.now a.here _ c.before.before.before.read_number.ensures g.0.0 g.1)
+    let g = c.refusal-1.given in
+    branch_refused a.text.now a.here a.root b.requires.1 g.0.0 (said_refused InNet branch_key _ (up_to branch_limit) c.up_to.ensures a.text.now a.here _ c.read_number.ensures g.0.0 g.1)
 
 returns-2 : tie.Need-returns-2
 returns-2 c =
-    let b = c.before.before.before.before.before.before.before.before.before in
+    let b = c in
     let a = b.args in
-    let t = c.before.before in
-    says_by a.text.now c.read-wire.result
-    (branch_read a.text.now a.here a.root b.requires.1 t.before.value.given.0.0 (next t) (taken t) _ (c.before.of.ensures ∙ to_z-of_z (small t)))
-    c.read-wire.ensures
+    let t = c in
+    says_by a.text.now c.read_wire.result
+    (branch_read a.text.now a.here a.root b.requires.1 t.value-1.given.0.0 (next t) (taken t) _ (c.of.ensures ∙ to_z-of_z (small t)))
+    c.read_wire.ensures
 
-pub read-branch-spec : {M : Type 1} → statement M
-read-branch-spec =
+pub read_branch_spec : {M : Type 1} → statement M
+read_branch_spec =
     tie.close
     (tie.spec
-    slice-aggregate-read-number
-    up-to-requires
-    read-number-requires
-    enum-known-refusal
-    enum-known-value
+    up_to-requires
+    read_number-requires
+    enum_known-refusal
+    enum_known-value
     of-requires
-    read-wire-requires
-    returns
+    read_wire-requires
+    returns-in-NumberRefused
+    returns-in-NumberRead
     returns-2)

@@ -21,64 +21,64 @@ use borrow.Author.Rules.{rules}
 use Rattle.reading.proofs.read_net.read_count.Statement.{statement}
 use Rattle.reading.proofs.read_net.read_count.Tie as tie
 
-slice-aggregate-read-number : tie.Need-slice-aggregate-read-number
-slice-aggregate-read-number c = search rules
+up_to-requires : tie.Need-up_to-requires
+up_to-requires c = search rules
 
-up-to-requires : tie.Need-up-to-requires
-up-to-requires c κs = search rules
+read_number-requires : tie.Need-read_number-requires
+read_number-requires c κs = search rules
 
-read-number-requires : tie.Need-read-number-requires
-read-number-requires c κs =
-    let p = c.before.before.before.requires in
-    (p.0, omega (arith, p.1), subst Narrow (sym c.up-to.ensures) (from_narrow sink_limit (omega arith) 1))
+enum_known-refusal : tie.Need-enum_known-refusal
+enum_known-refusal c κs =
+    let p = c.requires in
+    (p.0, omega (arith, p.1), subst Narrow (sym c.up_to.ensures) (from_narrow sink_limit (omega arith) 1))
 
-enum-known-refusal : tie.Need-enum-known-refusal
-enum-known-refusal c = search rules
+enum_known-value : tie.Need-enum_known-value
+enum_known-value c = search rules
 
-enum-known-value : tie.Need-enum-known-value
-enum-known-value c = search rules
+overflow_cast-result : tie.Need-overflow_cast-result
+overflow_cast-result c = search rules
 
 -- the line has a number in its range
-abbrev next : tie.After-known-told2 → Place
+abbrev next : tie.In-NumberRead → Place
 next t = t.before.value.given.0.1.0
 
-taken : (t : tie.After-known-told2) → NumberTaken InNet sinks_key (up_to sink_limit) t.before.before.before.before.before.before.before.args.text.now t.before.before.before.before.before.before.before.args.here t.before.value.given.0.0 (next t)
+taken : (t : tie.In-NumberRead) → NumberTaken InNet sinks_key (up_to sink_limit) t.args.text.now t.args.here t.value-1.given.0.0 (next t)
 taken t =
     let a = t.before.before.before.before.before.before.before.args in
     let g = t.before.value.given in
-    said_taken InNet sinks_key _ (up_to sink_limit) t.before.before.before.before.up-to.ensures a.text.now a.here _ t.before.before.before.read_number.ensures g.0.0 g.0.1.0 g.1
+    said_taken InNet sinks_key _ (up_to sink_limit) t.before.before.before.before.up_to.ensures a.text.now a.here _ t.before.before.before.read_number.ensures g.0.0 g.0.1.0 g.1
 
-small : (t : tie.After-known-told2) → SFits w64 t.before.value.given.0.0
+small : (t : tie.In-NumberRead) → SFits w64 t.value-1.given.0.0
 small t = let b = inside_bounds (up_to sink_limit) t.before.value.given.0.0 (taken t).in_range in omega (arith, whole, b.0, b.1)
 
-cast-t15 : tie.Need-overflow-cast-t15
-cast-t15 c =
-    let z = c.before.value.given.0.0 in
+returns-in-NumberRefused : tie.Need-returns-in-NumberRefused
+returns-in-NumberRefused c =
+    let z = c.value-1.given.0.0 in
     let b = inside_bounds (up_to sink_limit) z (taken c).in_range in
     rw (to_z-of_z (small c)) (omega (arith, whole, b.0, b.1), omega (arith, whole, nat_abs_is z, b.0, b.1))
 
-returns : tie.Need-returns
-returns c =
-    let b = c.before.before.before.before.before.before.before in
+returns-in-NumberRead : tie.Need-returns-in-NumberRead
+returns-in-NumberRead c =
+    let b = c in
     let a = b.args in
-    let g = c.before.refusal.given in
-    count_refused a.text.now a.here a.root a.header b.requires.1 g.0.0 (said_refused InNet sinks_key _ (up_to sink_limit) c.before.before.before.before.up-to.ensures a.text.now a.here _ c.before.before.before.read_number.ensures g.0.0 g.1)
+    let g = c.refusal-1.given in
+    count_refused a.text.now a.here a.root a.header b.requires.1 g.0.0 (said_refused InNet sinks_key _ (up_to sink_limit) c.up_to.ensures a.text.now a.here _ c.read_number.ensures g.0.0 g.1)
 
 returns-2 : tie.Need-returns-2
 returns-2 c =
-    let b = c.before.before.before.before.before.before.before in
+    let b = c in
     let a = b.args in
-    count_read a.text.now a.here a.root a.header b.requires.1 b.requires.2 c.before.value.given.0.0 (next c) (taken c) _ (ap nat_abs (to_z-of_z (small c)))
+    count_read a.text.now a.here a.root a.header b.requires.1 b.requires.2 c.value-1.given.0.0 (next c) (taken c) _ (ap nat_abs (to_z-of_z (small c)))
 
-pub read-count-spec : {M : Type 1} → statement M
-read-count-spec =
+pub read_count_spec : {M : Type 1} → statement M
+read_count_spec =
     tie.close
     (tie.spec
-    slice-aggregate-read-number
-    up-to-requires
-    read-number-requires
-    enum-known-refusal
-    enum-known-value
-    cast-t15
-    returns
+    up_to-requires
+    read_number-requires
+    enum_known-refusal
+    enum_known-value
+    overflow_cast-result
+    returns-in-NumberRefused
+    returns-in-NumberRead
     returns-2)

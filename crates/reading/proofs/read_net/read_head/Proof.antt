@@ -4,14 +4,14 @@ use borrow.Author.Rules.{rules}
 use Rattle.reading.proofs.read_net.read_head.Statement.{statement}
 use Rattle.reading.proofs.read_net.read_head.Tie as tie
 
+returns-then-text-gt-NET_LENGTH_LIMIT : tie.Need-returns-then-text-gt-NET_LENGTH_LIMIT
+returns-then-text-gt-NET_LENGTH_LIMIT c = net_long c.args.text.now c.if-text-gt-NET_LENGTH_LIMIT.true
+
+read_root-requires : tie.Need-read_root-requires
+read_root-requires c κs = search rules
+
 returns : tie.Need-returns
-returns c = net_long c.before.before.args.text.now c.if1.true
+returns c = net_short c.args.text.now c.if-text-gt-NET_LENGTH_LIMIT.false c.read_root.result c.read_root.ensures
 
-read-root-requires : tie.Need-read-root-requires
-read-root-requires c κs = search rules
-
-returns-2 : tie.Need-returns-2
-returns-2 c = net_short c.before.before.before.args.text.now c.before.if1.false c.read-root.result c.read-root.ensures
-
-pub read-head-spec : {M : Type 1} → statement M
-read-head-spec = tie.close (tie.spec returns read-root-requires returns-2)
+pub read_head_spec : {M : Type 1} → statement M
+read_head_spec = tie.close (tie.spec returns-then-text-gt-NET_LENGTH_LIMIT read_root-requires returns)

@@ -29,192 +29,192 @@ use Rattle.formats.proofs.Laws.Nets.SinkLines.{sink_wrong, sink_out, sink_far, s
 use Rattle.reading.proofs.read_net.read_sink.Statement.{statement}
 use Rattle.reading.proofs.read_net.read_sink.Tie as tie
 
-abbrev start : tie.After-known-told → tie.Start
+abbrev start : tie.In-AsDue → tie.Start
 start t = t.before.before.before.before.before.before
 
-abbrev text : tie.After-known-told → List ℕ
+abbrev text : tie.In-AsDue → List ℕ
 text t = (start t).args.text.now
 
-abbrev here : tie.After-known-told → Place
+abbrev here : tie.In-AsDue → Place
 here t = (start t).args.here
 
-abbrev root : tie.After-known-told → Point
+abbrev root : tie.In-AsDue → Point
 root t = (start t).args.root
 
-abbrev numbers : tie.After-known-told → Numbers
+abbrev numbers : tie.In-AsDue → Numbers
 numbers t = t.before.numbers.given.0.0
 
-abbrev next : tie.After-known-told → Place
+abbrev next : tie.In-AsDue → Place
 next t = t.before.numbers.given.0.1.0
 
-slice-aggregate-read-line : tie.Need-slice-aggregate-read-line
-slice-aggregate-read-line c = search rules
+read_line-requires : tie.Need-read_line-requires
+read_line-requires c = search rules
 
-read-line-requires : tie.Need-read-line-requires
-read-line-requires c κs = search rules
+enum_known-numbers : tie.Need-enum_known-numbers
+enum_known-numbers c κs = search rules
 
-enum-known-numbers : tie.Need-enum-known-numbers
-enum-known-numbers c = search rules
+enum_told-1 : tie.Need-enum_told-1
+enum_told-1 c = search rules
 
-enum_told : tie.Need-enum-told
-enum_told c = search rules
+returns-in_default : tie.Need-returns-in_default
+returns-in_default c = search rules
 
-returns : tie.Need-returns
-returns c =
-    let a = c.before.before.before.before.before.args in
-    sink_wrong a.root a.text.now a.here (wrong_line sink_key 4 a.text.now a.here.at a.here.line (sym c.enum_told.given.1 ∙ c.before.before.read-line.ensures))
+sink_in_range-requires : tie.Need-sink_in_range-requires
+sink_in_range-requires c =
+    let a = c.args in
+    sink_wrong a.root a.text.now a.here (wrong_line sink_key 4 a.text.now a.here.at a.here.line (sym c.enum_told-1.given.1 ∙ c.read_line.ensures))
 
-there : (t : tie.After-known-told) → (Spelt (numbers t) (next t).at ≡ line_at (here t).at (line_in sink_key 4 (drop (here t).at (text t)))) × ((next t).line ≡ (here t).line + 1)
-there t = right_line sink_key 4 (text t) (here t).at (here t).line (numbers t) (next t) (sym t.before.numbers.given.1 ∙ t.before.before.before.read-line.ensures)
+there : (t : tie.In-AsDue) → (Spelt (numbers t) (next t).at ≡ line_at (here t).at (line_in sink_key 4 (drop (here t).at (text t)))) × ((next t).line ≡ (here t).line + 1)
+there t = right_line sink_key 4 (text t) (here t).at (here t).line (numbers t) (next t) (sym t.before.numbers.given.1 ∙ t.before.before.before.read_line.ensures)
 
-sink-in-range-requires : tie.Need-sink-in-range-requires
-sink-in-range-requires c κs = search rules
+returns-then-not-sink_in_range : tie.Need-returns-then-not-sink_in_range
+returns-then-not-sink_in_range c κs = search rules
 
-returns-2 : tie.Need-returns-2
-returns-2 c =
-    let t = c.before.before in
-    sink_out (root t) (text t) (here t) (numbers t) (next t).at (there t).0 (failed c.before.sink-in-range.result sink_ranges (listed (numbers t)) c.before.sink-in-range.ensures (not-true _ c.if1.true))
+value-requires : tie.Need-value-requires
+value-requires c =
+    let t = c in
+    sink_out (root t.before.before.before.before.before.before) (text t.before.before.before.before.before.before) (here t.before.before.before.before.before.before) (numbers t.before.before.before.before.before.before) (next t.before.before.before.before.before.before).at (there t).0 (failed c.sink_in_range.result sink_ranges (listed (numbers t.before.before.before.before.before.before)) c.sink_in_range.ensures (not-true _ c.if-not-sink_in_range.true))
 
 -- the line where its numbers are in range
-abbrev line : tie.After-weight → tie.After-known-told
+abbrev line : tie.After-weight-1 → tie.In-AsDue
 line c = c.before.before.before.before.before.before
 
-taken : (c : tie.After-weight) → Taken sink_key sink_ranges (text (line c)) (here (line c)).at (numbers (line c)) (next (line c)).at
+taken : (c : tie.After-weight-1) → Taken sink_key sink_ranges (text (line c)) (here (line c)).at (numbers (line c)) (next (line c)).at
 taken c =
-    let e = c.before.before.before.before in
+    let e = c in
     record {
       few = omega arith;
       spelt = (there (line c)).0;
       narrow = (around_narrow position_limit (omega arith), (around_narrow position_limit (omega arith), (around_narrow required_limit (omega arith), (from_narrow weight_limit (omega arith) 1, tt))));
-      passed = passed e.before.sink-in-range.result sink_ranges (listed (numbers (line c))) e.before.sink-in-range.ensures (not-false _ e.if1.false);
+      passed = passed e.sink_in_range.result sink_ranges (listed (numbers (line c))) e.sink_in_range.ensures (not-false _ e.if-not-sink_in_range.false);
     }
 
-value-requires : tie.Need-value-requires
-value-requires c κs = (taken_small InNet (taken c)).0
-
 value-requires-2 : tie.Need-value-requires-2
-value-requires-2 c κs = (taken_small InNet (taken c.before)).1.0
+value-requires-2 c κs = (taken_small InNet (taken c.before)).0
 
-is-far-requires : tie.Need-is-far-requires
-is-far-requires c κs =
-    let e = c.before.before in
-    let v = c.before.value in
-    let w = c.value2 in
-    ((start (line e)).requires.2, point_within InNet (taken e) _ (to_z-of_z (fit v.result v.type-inv) ∙ v.ensures) (to_z-of_z (fit w.result w.type-inv) ∙ w.ensures))
+is_far-requires : tie.Need-is_far-requires
+is_far-requires c κs = (taken_small InNet (taken c.before.before)).1.0
 
-returns-3 : tie.Need-returns-3
-returns-3 c =
-    let e = c.before.before.before.before in
-    let n = line e in
-    let v = c.before.before.before.value in
-    let w = c.before.before.value2 in
-    sink_far (root n) (text n) (here n) (numbers n) (next n).at (taken e) _ (to_z-of_z (fit v.result v.type-inv) ∙ v.ensures) (to_z-of_z (fit w.result w.type-inv) ∙ w.ensures) (sym c.if2.true ∙ c.before.is-far.ensures)
+returns-then-is_far : tie.Need-returns-then-is_far
+returns-then-is_far c κs =
+    let e = c in
+    let v = c.value in
+    let w = c.value-2 in
+    ((start (line e.before.before.before.before)).requires.2, point_within InNet (taken e.before.before.before.before) _ (to_z-of_z (fit v.result v.type_inv) ∙ v.ensures) (to_z-of_z (fit w.result w.type_inv) ∙ w.ensures))
+
+offset_bounds-xs-s : tie.Need-offset_bounds-xs-s
+offset_bounds-xs-s c =
+    let e = c in
+    let n = line e.before.before.before.before.before.before in
+    let v = c.value in
+    let w = c.value-2 in
+    sink_far (root n) (text n) (here n) (numbers n) (next n).at (taken e.before.before.before.before.before.before) _ (to_z-of_z (fit v.result v.type_inv) ∙ v.ensures) (to_z-of_z (fit w.result w.type_inv) ∙ w.ensures) (sym c.if-is_far.true ∙ c.is_far.ensures)
 
 -- the line where its pin is near enough besides
-abbrev near : tie.After-struct-told2 → tie.After-weight
+abbrev near : tie.After-struct_told-2-1 → tie.After-weight-1
 near c = c.before.before.before.before.before.before
 
-mul-x : tie.Need-overflow-mul-x
-mul-x c =
+bounds-xs-s : tie.Need-bounds-xs-s
+bounds-xs-s c =
     let p = start (line (near c)) in
     let g = p.good.1.1.1.1.0 in
     let b = p.pre.3.0 in
     search rules
 
-slice-set-from-x : tie.Need-slice-set-from-x
-slice-set-from-x c = search rules
+offset_bounds-ys-s : tie.Need-offset_bounds-ys-s
+offset_bounds-ys-s c = search rules
 
-mul-y : tie.Need-overflow-mul-y
-mul-y c = mul-x c
-
-slice-set-from-y : tie.Need-slice-set-from-y
-slice-set-from-y c = search rules
+bounds-ys-s : tie.Need-bounds-ys-s
+bounds-ys-s c = bounds-xs-s c
 
 value-requires-3 : tie.Need-value-requires-3
-value-requires-3 c κs = (taken_small InNet (taken (near c))).1.1.0
+value-requires-3 c = search rules
 
-mul-t33 : tie.Need-overflow-mul-t33
-mul-t33 c = mul-x c.before
+offset_bounds-required-s : tie.Need-offset_bounds-required-s
+offset_bounds-required-s c κs = (taken_small InNet (taken (near c.before))).1.1.0
 
-slice-set-from-required : tie.Need-slice-set-from-required
-slice-set-from-required c = search rules
+bounds-required-s : tie.Need-bounds-required-s
+bounds-required-s c = bounds-xs-s c.before
 
 value-requires-4 : tie.Need-value-requires-4
-value-requires-4 c κs = (taken_small InNet (taken (near c.before))).1.1.1.0
+value-requires-4 c = search rules
 
-mul-t33-2 : tie.Need-overflow-mul-t33-2
-mul-t33-2 c = mul-x c.before.before
+offset_bounds-weights-s : tie.Need-offset_bounds-weights-s
+offset_bounds-weights-s c κs = (taken_small InNet (taken (near c.before.before))).1.1.1.0
 
-slice-set-from-weights : tie.Need-slice-set-from-weights
-slice-set-from-weights c = search rules
+bounds-weights-s : tie.Need-bounds-weights-s
+bounds-weights-s c = bounds-xs-s c.before.before
 
-same_length : tie.Need-same-length
-same_length c = search rules
+shape_of-xs : tie.Need-shape_of-xs
+shape_of-xs c = search rules
 
-same-length-2 : tie.Need-same-length-2
-same-length-2 c = search rules
+shape_of-ys : tie.Need-shape_of-ys
+shape_of-ys c = search rules
 
-same-length-3 : tie.Need-same-length-3
-same-length-3 c = search rules
+shape_of-required : tie.Need-shape_of-required
+shape_of-required c = search rules
 
-same-length-4 : tie.Need-same-length-4
-same-length-4 c = search rules
+shape_of-weights : tie.Need-shape_of-weights
+shape_of-weights c = search rules
+
+returns : tie.Need-returns
+returns c = search rules
 
 returns-4 : tie.Need-returns-4
 returns-4 c =
-    let d = c.before.before in
+    let d = c in
     let e = near d in
     let n = line e in
     let p = start n in
-    let v = d.before.before.before.before.before.value in
-    let w = d.before.before.before.before.value2 in
-    let u = c.before.value3 in
-    let o = c.value4 in
-    let x = to_z-of_z (fit v.result v.type-inv) in
-    let y = to_z-of_z (fit w.result w.type-inv) in
+    let v = d.value in
+    let w = d.value-2 in
+    let u = c.value-3 in
+    let o = c.value-4 in
+    let x = to_z-of_z (fit v.result v.type_inv) in
+    let y = to_z-of_z (fit w.result w.type_inv) in
     record {
       x = _;
       y = _;
       a = _;
       w = _;
       read_to = record {
-        reads = sink_near (root n) (text n) (here n) (numbers n) (next n).at (taken e) _ (x ∙ v.ensures) (y ∙ w.ensures) (sym d.before.before.if2.false ∙ d.before.before.before.is-far.ensures);
+        reads = sink_near (root n) (text n) (here n) (numbers n) (next n).at (taken e) _ (x ∙ v.ensures) (y ∙ w.ensures) (sym d.if-is_far.false ∙ d.is_far.ensures);
         within = (taken_next InNet (taken e) p.pre.0).1;
         line_is = (there n).1;
       };
       xs_is = ap (set p.args.xs.now p.args.s) (ap (λ (z : ℤ). to_z w64 (of_z w64 z)) x ∙ x ∙ v.ensures);
       ys_is = ap (set p.args.ys.now p.args.s) (ap (λ (z : ℤ). to_z w64 (of_z w64 z)) y ∙ y ∙ w.ensures);
-      required_is = ap (set p.args.required.now p.args.s) (to_z-of_z (fit u.result u.type-inv) ∙ u.ensures);
-      weights_is = ap (set p.args.weights.now p.args.s) (to_z-of_z (fit o.result o.type-inv) ∙ o.ensures);
+      required_is = ap (set p.args.required.now p.args.s) (to_z-of_z (fit u.result u.type_inv) ∙ u.ensures);
+      weights_is = ap (set p.args.weights.now p.args.s) (to_z-of_z (fit o.result o.type_inv) ∙ o.ensures);
     }
 
-pub read-sink-spec : {M : Type 1} → statement M
-read-sink-spec =
+pub read_sink_spec : {M : Type 1} → statement M
+read_sink_spec =
     tie.close
     (tie.spec
-    slice-aggregate-read-line
-    read-line-requires
-    enum-known-numbers
-    enum_told
-    returns
-    sink-in-range-requires
-    returns-2
+    read_line-requires
+    enum_known-numbers
+    enum_told-1
+    returns-in_default
+    sink_in_range-requires
+    returns-then-not-sink_in_range
     value-requires
     value-requires-2
-    is-far-requires
-    returns-3
-    mul-x
-    slice-set-from-x
-    mul-y
-    slice-set-from-y
+    is_far-requires
+    returns-then-is_far
+    offset_bounds-xs-s
+    bounds-xs-s
+    offset_bounds-ys-s
+    bounds-ys-s
     value-requires-3
-    mul-t33
-    slice-set-from-required
+    offset_bounds-required-s
+    bounds-required-s
     value-requires-4
-    mul-t33-2
-    slice-set-from-weights
-    same_length
-    same-length-2
-    same-length-3
-    same-length-4
+    offset_bounds-weights-s
+    bounds-weights-s
+    shape_of-xs
+    shape_of-ys
+    shape_of-required
+    shape_of-weights
+    returns
     returns-4)

@@ -9,135 +9,135 @@ use Rattle.formats.proofs.Laws.Nets.SinkLines.{Sinking, sinking_start, sinking_r
 use Rattle.reading.proofs.read_net.read_sinks.Statement.{statement}
 use Rattle.reading.proofs.read_net.read_sinks.Tie as tie
 
-abbrev invariant-loop : tie.invariant-loop
-invariant-loop text root n xs₀ ys₀ required₀ weights₀ here₀ done₀ xs ys required weights here done =
+abbrev invariant-loop-done : tie.invariant-loop-done
+invariant-loop-done text root n xs₀ ys₀ required₀ weights₀ here₀ done₀ xs ys required weights here done =
     Sinking root n text here₀.at (point_at xs₀ ys₀ 0) xs ys required weights here done
     × (length xs ≡ length xs₀)
     × (length ys ≡ length ys₀)
     × (length required ≡ length required₀)
     × (length weights ≡ length weights₀)
 
-abbrev decreases-loop : tie.decreases-loop
-decreases-loop text root n xs₀ ys₀ required₀ weights₀ here₀ done₀ xs ys required weights here done = n - done
+abbrev decreases-loop-done : tie.decreases-loop-done
+decreases-loop-done text root n xs₀ ys₀ required₀ weights₀ here₀ done₀ xs ys required weights here done = n - done
 
-loop-holds : tie.Need-loop-init invariant-loop decreases-loop
-loop-holds c =
-    let b = c.before in
+loop-done-init : tie.Need-loop-done-init invariant-loop-done decreases-loop-done
+loop-done-init c =
+    let b = c in
     (sinking_start _ b.args.n _ b.args.from _ _ _ _ b.requires.0.1 b.requires.0.2 b.requires.1.0 b.requires.1.1 b.requires.1.2 b.requires.1.3, refl, refl, refl, refl)
 
-add-read-sink : tie.Need-overflow-add-read-sink invariant-loop decreases-loop
-add-read-sink c = search rules
+overflow_add-done : tie.Need-overflow_add-done invariant-loop-done decreases-loop-done
+overflow_add-done c = search rules
 
-read-sink-requires : tie.Need-read-sink-requires invariant-loop decreases-loop
-read-sink-requires c κs = search rules
+read_sink-requires : tie.Need-read_sink-requires invariant-loop-done decreases-loop-done
+read_sink-requires c κs = search rules
 
-enum-known-next : tie.Need-enum-known-next invariant-loop decreases-loop
-enum-known-next c = search rules
+enum_known-next : tie.Need-enum_known-next invariant-loop-done decreases-loop-done
+enum_known-next c = search rules
 
-enum-known-refusal : tie.Need-enum-known-refusal invariant-loop decreases-loop
-enum-known-refusal c = search rules
+enum_known-refusal : tie.Need-enum_known-refusal invariant-loop-done decreases-loop-done
+enum_known-refusal c = search rules
 
-same_length : tie.Need-same-length invariant-loop decreases-loop
-same_length c = search rules
+shape_of-xs-in-SinkRefused : tie.Need-shape_of-xs-in-SinkRefused invariant-loop-done decreases-loop-done
+shape_of-xs-in-SinkRefused c = search rules
 
-same-length-2 : tie.Need-same-length-2 invariant-loop decreases-loop
-same-length-2 c = search rules
+shape_of-ys-in-SinkRefused : tie.Need-shape_of-ys-in-SinkRefused invariant-loop-done decreases-loop-done
+shape_of-ys-in-SinkRefused c = search rules
 
-same-length-3 : tie.Need-same-length-3 invariant-loop decreases-loop
-same-length-3 c = search rules
+shape_of-required-in-SinkRefused : tie.Need-shape_of-required-in-SinkRefused invariant-loop-done decreases-loop-done
+shape_of-required-in-SinkRefused c = search rules
 
-same-length-4 : tie.Need-same-length-4 invariant-loop decreases-loop
-same-length-4 c = search rules
+shape_of-weights-in-SinkRefused : tie.Need-shape_of-weights-in-SinkRefused invariant-loop-done decreases-loop-done
+shape_of-weights-in-SinkRefused c = search rules
 
-returns : tie.Need-returns invariant-loop decreases-loop
+returns-in-SinkRefused : tie.Need-returns-in-SinkRefused invariant-loop-done decreases-loop-done
+returns-in-SinkRefused c h =
+    let k = c in
+    let v = k.loop-done in
+    let g = c.refusal-1.given in
+    let a = k.args in
+    rest_refused h a.root a.n (drop a.from.at a.text.now) g.0.0 (sinking_refused _ _ _ _ _ _ _ _ _ v.here v.done v.invariant.0 k.loop-done-test.true g.0.0 (rw g.1 at k.read_sink.ensures))
+
+overflow_add-done-in-loop-done : tie.Need-overflow_add-done-in-loop-done invariant-loop-done decreases-loop-done
+overflow_add-done-in-loop-done c = search rules
+
+loop-done-smaller : tie.Need-loop-done-smaller invariant-loop-done decreases-loop-done
+loop-done-smaller c = search rules
+
+loop-done-preserved : tie.Need-loop-done-preserved invariant-loop-done decreases-loop-done
+loop-done-preserved c =
+    let k = c in
+    let v = k.loop-done in
+    let g = c.next-1.given in
+    let p = k.read_sink in
+    (sinking_more _ _ _ _ _ _ _ _ _ v.here v.done v.invariant.0 k.loop-done-test.true g.0.0 _ _ _ _ (rw g.1 at p.ensures), p.auto.xs ∙ v.invariant.1, p.auto.ys ∙ v.invariant.2, p.auto.required ∙ v.invariant.3, p.auto.weights ∙ v.invariant.4)
+
+bytes_follow-requires : tie.Need-bytes_follow-requires invariant-loop-done decreases-loop-done
+bytes_follow-requires c κs = search rules
+
+shape_of-xs-then-bytes_follow : tie.Need-shape_of-xs-then-bytes_follow invariant-loop-done decreases-loop-done
+shape_of-xs-then-bytes_follow c = search rules
+
+shape_of-ys-then-bytes_follow : tie.Need-shape_of-ys-then-bytes_follow invariant-loop-done decreases-loop-done
+shape_of-ys-then-bytes_follow c = search rules
+
+shape_of-required-then-bytes_follow : tie.Need-shape_of-required-then-bytes_follow invariant-loop-done decreases-loop-done
+shape_of-required-then-bytes_follow c = search rules
+
+shape_of-weights-then-bytes_follow : tie.Need-shape_of-weights-then-bytes_follow invariant-loop-done decreases-loop-done
+shape_of-weights-then-bytes_follow c = search rules
+
+returns-then-bytes_follow : tie.Need-returns-then-bytes_follow invariant-loop-done decreases-loop-done
+returns-then-bytes_follow c h =
+    let v = c.loop-done in
+    let a = c.args in
+    rest_refused h a.root a.n (drop a.from.at a.text.now) _ (sinking_left _ _ _ _ _ _ _ _ _ v.here v.done v.invariant.0 c.loop-done-test.false (ltb-true _ _ (sym c.bytes_follow.ensures ∙ c.if-bytes_follow.true)))
+
+shape_of-xs : tie.Need-shape_of-xs invariant-loop-done decreases-loop-done
+shape_of-xs c = search rules
+
+shape_of-ys : tie.Need-shape_of-ys invariant-loop-done decreases-loop-done
+shape_of-ys c = search rules
+
+shape_of-required : tie.Need-shape_of-required invariant-loop-done decreases-loop-done
+shape_of-required c = search rules
+
+shape_of-weights : tie.Need-shape_of-weights invariant-loop-done decreases-loop-done
+shape_of-weights c = search rules
+
+returns : tie.Need-returns invariant-loop-done decreases-loop-done
 returns c h =
-    let k = c.before.before.before.before.before.before.before in
-    let v = k.before.before.before.before.before.before.loop in
-    let g = c.before.refusal.given in
-    let a = k.before.before.before.before.before.before.before.before.args in
-    rest_refused h a.root a.n (drop a.from.at a.text.now) g.0.0 (sinking_refused _ _ _ _ _ _ _ _ _ v.here v.done v.invariant.0 k.before.before.before.before.before.loop-test.true g.0.0 (rw g.1 at k.read-sink.ensures))
-
-add_done : tie.Need-overflow-add-done invariant-loop decreases-loop
-add_done c = search rules
-
-loop-less : tie.Need-loop-smaller invariant-loop decreases-loop
-loop-less c = search rules
-
-loop-again : tie.Need-loop-preserved invariant-loop decreases-loop
-loop-again c =
-    let k = c.before.before.before.before.before.before.before in
-    let v = k.before.before.before.before.before.before.loop in
-    let g = c.before.next.given in
-    let p = k.read-sink in
-    (sinking_more _ _ _ _ _ _ _ _ _ v.here v.done v.invariant.0 k.before.before.before.before.before.loop-test.true g.0.0 _ _ _ _ (rw g.1 at p.ensures), p.auto.1.1.1.1.0 ∙ v.invariant.1, p.auto.1.1.1.1.1.0 ∙ v.invariant.2, p.auto.1.1.1.1.1.1.0 ∙ v.invariant.3, p.auto.1.1.1.1.1.1.1.0 ∙ v.invariant.4)
-
-bytes-follow-requires : tie.Need-bytes-follow-requires invariant-loop decreases-loop
-bytes-follow-requires c κs = search rules
-
-same-length-5 : tie.Need-same-length-5 invariant-loop decreases-loop
-same-length-5 c = search rules
-
-same-length-6 : tie.Need-same-length-6 invariant-loop decreases-loop
-same-length-6 c = search rules
-
-same-length-7 : tie.Need-same-length-7 invariant-loop decreases-loop
-same-length-7 c = search rules
-
-same-length-8 : tie.Need-same-length-8 invariant-loop decreases-loop
-same-length-8 c = search rules
-
-returns-2 : tie.Need-returns-2 invariant-loop decreases-loop
-returns-2 c h =
-    let v = c.before.before.before.loop in
-    let a = c.before.before.before.before.before.args in
-    rest_refused h a.root a.n (drop a.from.at a.text.now) _ (sinking_left _ _ _ _ _ _ _ _ _ v.here v.done v.invariant.0 c.before.before.loop-test.false (ltb-true _ _ (sym c.before.bytes-follow.ensures ∙ c.if1.true)))
-
-same-length-9 : tie.Need-same-length-9 invariant-loop decreases-loop
-same-length-9 c = search rules
-
-same-length-10 : tie.Need-same-length-10 invariant-loop decreases-loop
-same-length-10 c = search rules
-
-same-length-11 : tie.Need-same-length-11 invariant-loop decreases-loop
-same-length-11 c = search rules
-
-same-length-12 : tie.Need-same-length-12 invariant-loop decreases-loop
-same-length-12 c = search rules
-
-returns-3 : tie.Need-returns-3 invariant-loop decreases-loop
-returns-3 c h =
-    let v = c.before.before.before.loop in
-    let b = c.before.before.before.before.before in
+    let v = c.loop-done in
+    let b = c in
     let a = b.args in
-    rest_held h a.root a.n (drop a.from.at a.text.now) v.xs v.ys v.required v.weights (v.invariant.0.origin_is ∙ b.requires.2) (sinking_end _ _ _ _ _ _ _ _ _ v.here v.done v.invariant.0 c.before.before.loop-test.false (ltb-false _ _ (sym c.before.bytes-follow.ensures ∙ c.if1.false)))
+    rest_held h a.root a.n (drop a.from.at a.text.now) v.xs v.ys v.required v.weights (v.invariant.0.origin_is ∙ b.requires.2) (sinking_end _ _ _ _ _ _ _ _ _ v.here v.done v.invariant.0 c.loop-done-test.false (ltb-false _ _ (sym c.bytes_follow.ensures ∙ c.if-bytes_follow.false)))
 
-pub read-sinks-spec : {M : Type 1} → statement M
-read-sinks-spec =
+pub read_sinks_spec : {M : Type 1} → statement M
+read_sinks_spec =
     tie.close
     (tie.spec
-    invariant-loop
-    decreases-loop
-    loop-holds
-    add-read-sink
-    read-sink-requires
-    enum-known-next
-    enum-known-refusal
-    same_length
-    same-length-2
-    same-length-3
-    same-length-4
-    returns
-    add_done
-    loop-less
-    loop-again
-    bytes-follow-requires
-    same-length-5
-    same-length-6
-    same-length-7
-    same-length-8
-    returns-2
-    same-length-9
-    same-length-10
-    same-length-11
-    same-length-12
-    returns-3)
+    invariant-loop-done
+    decreases-loop-done
+    loop-done-init
+    overflow_add-done
+    read_sink-requires
+    enum_known-next
+    enum_known-refusal
+    shape_of-xs-in-SinkRefused
+    shape_of-ys-in-SinkRefused
+    shape_of-required-in-SinkRefused
+    shape_of-weights-in-SinkRefused
+    returns-in-SinkRefused
+    overflow_add-done-in-loop-done
+    loop-done-smaller
+    loop-done-preserved
+    bytes_follow-requires
+    shape_of-xs-then-bytes_follow
+    shape_of-ys-then-bytes_follow
+    shape_of-required-then-bytes_follow
+    shape_of-weights-then-bytes_follow
+    returns-then-bytes_follow
+    shape_of-xs
+    shape_of-ys
+    shape_of-required
+    shape_of-weights
+    returns)

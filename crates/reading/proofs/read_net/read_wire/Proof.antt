@@ -22,46 +22,46 @@ use borrow.Author.Rules.{rules}
 use Rattle.reading.proofs.read_net.read_wire.Statement.{statement}
 use Rattle.reading.proofs.read_net.read_wire.Tie as tie
 
-slice-aggregate-read-pair : tie.Need-slice-aggregate-read-pair
-slice-aggregate-read-pair c = search rules
+up_to-requires : tie.Need-up_to-requires
+up_to-requires c = search rules
 
-up-to-requires : tie.Need-up-to-requires
-up-to-requires c κs = search rules
+read_pair-requires : tie.Need-read_pair-requires
+read_pair-requires c κs = search rules
 
-read-pair-requires : tie.Need-read-pair-requires
-read-pair-requires c κs =
-    let p = c.before.before.before.requires in
-    (p.0, omega (arith, p.1), subst Narrow (sym c.up-to.ensures) (from_narrow wire_factor_limit (omega arith) 1))
+enum_known-refusal : tie.Need-enum_known-refusal
+enum_known-refusal c κs =
+    let p = c.requires in
+    (p.0, omega (arith, p.1), subst Narrow (sym c.up_to.ensures) (from_narrow wire_factor_limit (omega arith) 1))
 
-enum-known-refusal : tie.Need-enum-known-refusal
-enum-known-refusal c = search rules
+enum_known-first : tie.Need-enum_known-first
+enum_known-first c = search rules
 
-enum-known-first : tie.Need-enum-known-first
-enum-known-first c = search rules
+overflow_cast-first : tie.Need-overflow_cast-first
+overflow_cast-first c = search rules
 
 -- the line has two numbers in their range
-abbrev first : tie.After-known-told2 → ℤ
+abbrev first : tie.In-PairRead → ℤ
 first t = t.before.first.given.0.0
 
-abbrev second : tie.After-known-told2 → ℤ
+abbrev second : tie.In-PairRead → ℤ
 second t = t.before.first.given.0.1.0
 
-abbrev next : tie.After-known-told2 → Place
+abbrev next : tie.In-PairRead → Place
 next t = t.before.first.given.0.1.1.0
 
-abbrev start : tie.After-known-told2 → tie.Start
+abbrev start : tie.In-PairRead → tie.Start
 start t = t.before.before.before.before.before.before.before
 
-taken : (t : tie.After-known-told2) → PairTaken wire_key (up_to wire_factor_limit) (start t).args.text.now (start t).args.here (first t) (second t) (next t)
+taken : (t : tie.In-PairRead) → PairTaken wire_key (up_to wire_factor_limit) (start t).args.text.now (start t).args.here (first t) (second t) (next t)
 taken t =
     let a = (start t).args in
-    pair_read wire_key _ (up_to wire_factor_limit) t.before.before.before.before.up-to.ensures a.text.now a.here _ t.before.before.before.read-pair.ensures (first t) (second t) (next t) t.before.first.given.1
+    pair_read wire_key _ (up_to wire_factor_limit) t.before.before.before.before.up_to.ensures a.text.now a.here _ t.before.before.before.read_pair.ensures (first t) (second t) (next t) t.before.first.given.1
 
 -- each of them is from 1 on, so that it is read back and cast as it is
 abbrev Factor : ℤ → Type 0
 Factor z = (pos 1 ≤ℤ z) × (z ≤ℤ pos wire_factor_limit)
 
-factors : (t : tie.After-known-told2) → Factor (first t) × Factor (second t)
+factors : (t : tie.In-PairRead) → Factor (first t) × Factor (second t)
 factors t = let w = (taken t).in_range in (inside_bounds (up_to wire_factor_limit) (first t) w.0, inside_bounds (up_to wire_factor_limit) (second t) w.1)
 
 small : (z : ℤ) → Factor z → SFits w64 z
@@ -70,56 +70,56 @@ small z h = omega (arith, whole, h.0, h.1)
 cast : (z : ℤ) → Factor z → T (non_neg (to_z w64 (of_z w64 z))) × Fits w64 (nat_abs (to_z w64 (of_z w64 z)))
 cast z h = rw (to_z-of_z (small z h)) (omega (arith, whole, h.0, h.1), omega (arith, whole, nat_abs_is z, h.0, h.1))
 
-cast-of : tie.Need-overflow-cast-of
-cast-of c = cast (first c) (factors c).0
-
 of-requires : tie.Need-of-requires
-of-requires c κs = search rules
+of-requires c = cast (first c) (factors c).0
 
-cast-of-2 : tie.Need-overflow-cast-of-2
-cast-of-2 c = cast (second c.before) (factors c.before).1
+overflow_cast-second : tie.Need-overflow_cast-second
+overflow_cast-second c κs = search rules
 
-of-requires-2 : tie.Need-of-requires-2
-of-requires-2 c κs = search rules
+of-requires-in-PairRead : tie.Need-of-requires-in-PairRead
+of-requires-in-PairRead c = cast (second c.before) (factors c.before).1
 
-read-need-requires : tie.Need-read-need-requires
-read-need-requires c κs =
-    let t = c.before.before in
+read_need-requires : tie.Need-read_need-requires
+read_need-requires c κs = search rules
+
+returns-in-PairRefused : tie.Need-returns-in-PairRefused
+returns-in-PairRefused c κs =
+    let t = c in
     let k = (taken t).read_to in
     let p = (start t).requires in
     (k.within, omega (arith, k.line_is, p.1), p.2)
 
-returns : tie.Need-returns
-returns c =
-    let b = c.before.before.before.before.before.before.before in
+returns-in-PairRead : tie.Need-returns-in-PairRead
+returns-in-PairRead c =
+    let b = c in
     let a = b.args in
-    let g = c.before.refusal.given in
-    wire_refused a.root (up a.branch.0) a.text.now a.here b.requires.1 g.0.0 (pair_refused wire_key _ (up_to wire_factor_limit) c.before.before.before.before.up-to.ensures a.text.now a.here _ c.before.before.before.read-pair.ensures g.0.0 g.1)
+    let g = c.refusal-1.given in
+    wire_refused a.root (up a.branch.0) a.text.now a.here b.requires.1 g.0.0 (pair_refused wire_key _ (up_to wire_factor_limit) c.up_to.ensures a.text.now a.here _ c.read_pair.ensures g.0.0 g.1)
 
 returns-2 : tie.Need-returns-2
 returns-2 c =
-    let t = c.before.before.before in
+    let t = c in
     let b = start t in
     let a = b.args in
-    says_by a.text.now c.read-need.result
+    says_by a.text.now c.read_need.result
     (wire_read a.root (up a.branch.0) a.text.now a.here b.pre.1 (first t) (second t) (next t) (taken t) _
-    (c.before.before.of.ensures ∙ ap nat_abs (to_z-of_z (small (first t) (factors t).0)))
-    (c.before.of2.ensures ∙ ap nat_abs (to_z-of_z (small (second t) (factors t).1))))
-    c.read-need.ensures
+    (c.of.ensures ∙ ap nat_abs (to_z-of_z (small (first t) (factors t).0)))
+    (c.of-in-PairRead.ensures ∙ ap nat_abs (to_z-of_z (small (second t) (factors t).1))))
+    c.read_need.ensures
 
-pub read-wire-spec : {M : Type 1} → statement M
-read-wire-spec =
+pub read_wire_spec : {M : Type 1} → statement M
+read_wire_spec =
     tie.close
     (tie.spec
-    slice-aggregate-read-pair
-    up-to-requires
-    read-pair-requires
-    enum-known-refusal
-    enum-known-first
-    cast-of
+    up_to-requires
+    read_pair-requires
+    enum_known-refusal
+    enum_known-first
+    overflow_cast-first
     of-requires
-    cast-of-2
-    of-requires-2
-    read-need-requires
-    returns
+    overflow_cast-second
+    of-requires-in-PairRead
+    read_need-requires
+    returns-in-PairRefused
+    returns-in-PairRead
     returns-2)

@@ -23,60 +23,60 @@ by_last ns false x y a w = inr (inr (inr (inl w)))
 around-requires : tie.Need-around-requires
 around-requires c κs = search rules
 
-is-inside-requires : tie.Need-is-inside-requires
-is-inside-requires c κs = subst Narrow (sym c.around.ensures) (around_narrow position_limit (omega arith))
+is_inside-requires : tie.Need-is_inside-requires
+is_inside-requires c κs = subst Narrow (sym c.around.ensures) (around_narrow position_limit (omega arith))
 
-returns : tie.Need-returns
-returns c = inl (λ z e. sym (not-true _ c.if1.true) ∙ c.before.is-inside.ensures z e ∙ ap (λ r. inside r z) c.before.before.around.ensures)
+returns-then-not-is_inside : tie.Need-returns-then-not-is_inside
+returns-then-not-is_inside c = inl (λ z e. sym (not-true _ c.if-not-is_inside.true) ∙ c.is_inside.ensures z e ∙ ap (λ r. inside r z) c.around.ensures)
 
 around-requires-2 : tie.Need-around-requires-2
 around-requires-2 c κs = search rules
 
-is-inside-requires-2 : tie.Need-is-inside-requires-2
-is-inside-requires-2 c κs = subst Narrow (sym c.around2.ensures) (around_narrow position_limit (omega arith))
+is_inside-requires-2 : tie.Need-is_inside-requires-2
+is_inside-requires-2 c κs = subst Narrow (sym c.around-2.ensures) (around_narrow position_limit (omega arith))
 
-returns-2 : tie.Need-returns-2
-returns-2 c = inr (inl (λ z e. sym (not-true _ c.if2.true) ∙ c.before.is-inside2.ensures z e ∙ ap (λ r. inside r z) c.before.before.around2.ensures))
+returns-then-not-is_inside-2 : tie.Need-returns-then-not-is_inside-2
+returns-then-not-is_inside-2 c = inr (inl (λ z e. sym (not-true _ c.if-not-is_inside-2.true) ∙ c.is_inside-2.ensures z e ∙ ap (λ r. inside r z) c.around-2.ensures))
 
 around-requires-3 : tie.Need-around-requires-3
 around-requires-3 c κs = search rules
 
-is-inside-requires-3 : tie.Need-is-inside-requires-3
-is-inside-requires-3 c κs = subst Narrow (sym c.around3.ensures) (around_narrow required_limit (omega arith))
+is_inside-requires-3 : tie.Need-is_inside-requires-3
+is_inside-requires-3 c κs = subst Narrow (sym c.around-3.ensures) (around_narrow required_limit (omega arith))
 
-returns-3 : tie.Need-returns-3
-returns-3 c = inr (inr (inl (λ z e. sym (not-true _ c.if3.true) ∙ c.before.is-inside3.ensures z e ∙ ap (λ r. inside r z) c.before.before.around3.ensures)))
+returns-then-not-is_inside-3 : tie.Need-returns-then-not-is_inside-3
+returns-then-not-is_inside-3 c = inr (inr (inl (λ z e. sym (not-true _ c.if-not-is_inside-3.true) ∙ c.is_inside-3.ensures z e ∙ ap (λ r. inside r z) c.around-3.ensures)))
 
-up-to-requires : tie.Need-up-to-requires
-up-to-requires c κs = search rules
+up_to-requires : tie.Need-up_to-requires
+up_to-requires c κs = search rules
 
-is-inside-requires-4 : tie.Need-is-inside-requires-4
-is-inside-requires-4 c κs = subst Narrow (sym c.up-to.ensures) (from_narrow weight_limit (omega arith) 1)
+is_inside-requires-4 : tie.Need-is_inside-requires-4
+is_inside-requires-4 c κs = subst Narrow (sym c.up_to.ensures) (from_narrow weight_limit (omega arith) 1)
 
-returns-4 : tie.Need-returns-4
-returns-4 c =
-    let third = c.before.before in
-    let second = third.before.before.before in
-    let first = second.before.before.before in
-    by_last _ c.is-inside4.result
-    (λ z e. sym (not-false _ first.if1.false) ∙ first.before.is-inside.ensures z e ∙ ap (λ r. inside r z) first.before.before.around.ensures)
-    (λ z e. sym (not-false _ second.if2.false) ∙ second.before.is-inside2.ensures z e ∙ ap (λ r. inside r z) second.before.before.around2.ensures)
-    (λ z e. sym (not-false _ third.if3.false) ∙ third.before.is-inside3.ensures z e ∙ ap (λ r. inside r z) third.before.before.around3.ensures)
-    (λ z e. c.is-inside4.ensures z e ∙ ap (λ r. inside r z) c.before.up-to.ensures)
+returns : tie.Need-returns
+returns c =
+    let third = c in
+    let second = third in
+    let first = second in
+    by_last _ c.is_inside-4.result
+    (λ z e. sym (not-false _ first.if-not-is_inside.false) ∙ first.is_inside.ensures z e ∙ ap (λ r. inside r z) first.around.ensures)
+    (λ z e. sym (not-false _ second.if-not-is_inside-2.false) ∙ second.is_inside-2.ensures z e ∙ ap (λ r. inside r z) second.around-2.ensures)
+    (λ z e. sym (not-false _ third.if-not-is_inside-3.false) ∙ third.is_inside-3.ensures z e ∙ ap (λ r. inside r z) third.around-3.ensures)
+    (λ z e. c.is_inside-4.ensures z e ∙ ap (λ r. inside r z) c.up_to.ensures)
 
-pub sink-in-range-spec : {M : Type 1} → statement M
-sink-in-range-spec =
+pub sink_in_range_spec : {M : Type 1} → statement M
+sink_in_range_spec =
     tie.close
     (tie.spec
     around-requires
-    is-inside-requires
-    returns
+    is_inside-requires
+    returns-then-not-is_inside
     around-requires-2
-    is-inside-requires-2
-    returns-2
+    is_inside-requires-2
+    returns-then-not-is_inside-2
     around-requires-3
-    is-inside-requires-3
-    returns-3
-    up-to-requires
-    is-inside-requires-4
-    returns-4)
+    is_inside-requires-3
+    returns-then-not-is_inside-3
+    up_to-requires
+    is_inside-requires-4
+    returns)

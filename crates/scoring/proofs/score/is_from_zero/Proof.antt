@@ -12,17 +12,17 @@ use borrow.Author.Rules.{rules}
 use Rattle.scoring.proofs.score.is_from_zero.Statement.{statement}
 use Rattle.scoring.proofs.score.is_from_zero.Tie as tie
 
+returns-then-z-lt0 : tie.Need-returns-then-z-lt0
+returns-then-z-lt0 c = let a = c.args in from_zero_not a.limit a.z (ap (λ z. lt_z z (pos 0)) (sym (to_z-of_z c.ranges.z)) ∙ c.if-z-lt0.true)
+
+overflow_cast-result : tie.Need-overflow_cast-result
+overflow_cast-result c = search rules
+
 returns : tie.Need-returns
-returns c = let a = c.before.args in from_zero_not a.limit a.z (ap (λ z. lt_z z (pos 0)) (sym (to_z-of_z c.before.ranges.z)) ∙ c.if1.true)
+returns c =
+    let a = c.args in
+    let g : SFits w64 (pos a.limit) = omega (arith, whole, c.requires) in
+    (λ i. le_z (to_z-of_z c.ranges.z i) (to_z-of_z g i)) ∙ from_zero_when a.limit a.z (ap (λ z. lt_z z (pos 0)) (sym (to_z-of_z c.ranges.z)) ∙ c.if-z-lt0.false)
 
-cast-result : tie.Need-overflow-cast-result
-cast-result c = search rules
-
-returns-2 : tie.Need-returns-2
-returns-2 c =
-    let a = c.before.args in
-    let g : SFits w64 (pos a.limit) = omega (arith, whole, c.before.requires) in
-    (λ i. le_z (to_z-of_z c.before.ranges.z i) (to_z-of_z g i)) ∙ from_zero_when a.limit a.z (ap (λ z. lt_z z (pos 0)) (sym (to_z-of_z c.before.ranges.z)) ∙ c.if1.false)
-
-pub is-from-zero-spec : {M : Type 1} → statement M
-is-from-zero-spec = tie.close (tie.spec returns cast-result returns-2)
+pub is_from_zero_spec : {M : Type 1} → statement M
+is_from_zero_spec = tie.close (tie.spec returns-then-z-lt0 overflow_cast-result returns)

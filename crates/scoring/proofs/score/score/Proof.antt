@@ -13,39 +13,39 @@ use borrow.Author.Rules.{rules}
 use Rattle.scoring.proofs.score.score.Statement.{statement}
 use Rattle.scoring.proofs.score.score.Tie as tie
 
-judge-measures-requires : tie.Need-judge-measures-requires
-judge-measures-requires c κs = search rules
+judge_measures-requires : tie.Need-judge_measures-requires
+judge_measures-requires c κs = search rules
 
-enum-known-refusal : tie.Need-enum-known-refusal
-enum-known-refusal c = search rules
+enum_known-refusal : tie.Need-enum_known-refusal
+enum_known-refusal c = search rules
 
-enum-known-slack : tie.Need-enum-known-slack
-enum-known-slack c = search rules
+enum_known-slack : tie.Need-enum_known-slack
+enum_known-slack c = search rules
 
 -- what judge has measured
-judged : (c : tie.After-known-told2) → let a = c.before.before.before.before.before.before.args in let g = c.before.slack.given in
+judged : (c : tie.In-AcceptedListing) → let a = c.args in let g = c.slack-1.given in
     (j : Judgement) × ((judge_of a.net.now a.listing.now ≡ value j) × (g.0.0.0 ≡ j.slack) × (g.0.1.0.0 ≡ j.wire))
-judged c = measured_value _ c.before.slack.given.0.0 c.before.slack.given.0.1.0 (sym c.before.slack.given.1 ∙ c.before.before.before.judge-measures.ensures)
+judged c = measured_value _ c.slack-1.given.0.0 c.slack-1.given.0.1.0 (sym c.slack-1.given.1 ∙ c.judge_measures.ensures)
 
-score-measures-requires : tie.Need-score-measures-requires
-score-measures-requires c κs =
+score_measures-requires : tie.Need-score_measures-requires
+score_measures-requires c κs =
     let j = judged c in
     subst (λ l. l ≤ wire_limit) (sym j.1.2) (judged_in_range _ _ j.0 j.1.0).1
 
-returns : tie.Need-returns
-returns c =
-    let s = c.before.before.before.before.before.before in
-    sym (ap score_answer (score_refused s.args.net.now s.args.listing.now s.args.alpha-1024ths s.args.beta-1024ths s.args.cap c.before.refusal.given.0.0 (measured_refused _ _ (sym c.before.refusal.given.1 ∙ c.before.before.before.judge-measures.ensures))))
+returns-in-NotAccepted : tie.Need-returns-in-NotAccepted
+returns-in-NotAccepted c =
+    let s = c in
+    sym (ap score_answer (score_refused s.args.net.now s.args.listing.now s.args.alpha_1024ths s.args.beta_1024ths s.args.cap c.refusal-1.given.0.0 (measured_refused _ _ (sym c.refusal-1.given.1 ∙ c.judge_measures.ensures))))
 
-returns-2 : tie.Need-returns-2
-returns-2 c =
-    let s = c.before.before.before.before.before.before.before in
+returns-in-AcceptedListing : tie.Need-returns-in-AcceptedListing
+returns-in-AcceptedListing c =
+    let s = c in
     let a = s.args in
     let j = judged c.before in
-    c.score-measures.ensures
-    ∙ (λ i. score_answer (scored (to_z-of_z s.ranges.alpha-1024ths i) (to_z-of_z s.ranges.beta-1024ths i) (to_z-of_z s.ranges.cap i) (j.1.1 i) (j.1.2 i)))
-    ∙ sym (ap score_answer (score_judged a.net.now a.listing.now a.alpha-1024ths a.beta-1024ths a.cap j.0 j.1.0))
+    c.score_measures.ensures
+    ∙ (λ i. score_answer (scored (to_z-of_z s.ranges.alpha_1024ths i) (to_z-of_z s.ranges.beta_1024ths i) (to_z-of_z s.ranges.cap i) (j.1.1 i) (j.1.2 i)))
+    ∙ sym (ap score_answer (score_judged a.net.now a.listing.now a.alpha_1024ths a.beta_1024ths a.cap j.0 j.1.0))
 
-pub score-spec : {M : Type 1} → statement M
-score-spec =
-    tie.close (tie.spec judge-measures-requires enum-known-refusal enum-known-slack score-measures-requires returns returns-2)
+pub score_spec : {M : Type 1} → statement M
+score_spec =
+    tie.close (tie.spec judge_measures-requires enum_known-refusal enum_known-slack score_measures-requires returns-in-NotAccepted returns-in-AcceptedListing)

@@ -10,88 +10,88 @@ use borrow.Author.Rules.{rules}
 use Rattle.short_tree.proofs.choose.find_edge.Statement.{statement}
 use Rattle.short_tree.proofs.choose.find_edge.Tie as tie
 
-mul-v : tie.Need-overflow-mul-v
-mul-v c = search rules
+offset_bounds-kept-s : tie.Need-offset_bounds-kept-s
+offset_bounds-kept-s c = search rules
 
-slice-read-v : tie.Need-slice-read-v
-slice-read-v c = search rules
+bounds-kept-s : tie.Need-bounds-kept-s
+bounds-kept-s c = search rules
 
-edge-to-requires : tie.Need-edge-to-requires
-edge-to-requires c κs = let s = c.before.before.before.before in (s.args.last, (s.requires.0.0, s.requires.1.member.0, s.requires.1.member.1, s.requires.0.2))
+edge_to-here-requires : tie.Need-edge_to-here-requires
+edge_to-here-requires c κs = let s = c in (s.args.last, (s.requires.0.0, s.requires.1.member.0, s.requires.1.member.1, s.requires.0.2))
 
-mul-of : tie.Need-overflow-mul-of
-mul-of c = search rules
+offset_bounds-costs-s : tie.Need-offset_bounds-costs-s
+offset_bounds-costs-s c = search rules
 
-slice-read-of : tie.Need-slice-read-of
-slice-read-of c = search rules
+bounds-costs-s : tie.Need-bounds-costs-s
+bounds-costs-s c = search rules
 
 of-requires : tie.Need-of-requires
 of-requires c κs = search rules
 
-is-less-requires : tie.Need-is-less-requires
-is-less-requires c κs = search rules
+is_less-requires : tie.Need-is_less-requires
+is_less-requires c κs = search rules
 
-cheapest-edge-requires : tie.Need-cheapest-edge-requires
-cheapest-edge-requires c κs = search rules
+cheapest_edge-found-requires : tie.Need-cheapest_edge-found-requires
+cheapest_edge-found-requires c κs = search rules
 
-mul-kept : tie.Need-overflow-mul-kept
-mul-kept c = search rules
+offset_bounds-kept-s-then-is_less : tie.Need-offset_bounds-kept-s-then-is_less
+offset_bounds-kept-s-then-is_less c = search rules
 
-slice-write-kept : tie.Need-slice-write-kept
-slice-write-kept c = search rules
+bounds-kept-s-then-is_less : tie.Need-bounds-kept-s-then-is_less
+bounds-kept-s-then-is_less c = search rules
 
 nanometres-requires : tie.Need-nanometres-requires
 nanometres-requires c κs = search rules
 
-mul-costs : tie.Need-overflow-mul-costs
-mul-costs c = search rules
+offset_bounds-costs-s-then-is_less : tie.Need-offset_bounds-costs-s-then-is_less
+offset_bounds-costs-s-then-is_less c = search rules
 
-slice-write-costs : tie.Need-slice-write-costs
-slice-write-costs c = search rules
+bounds-costs-s-then-is_less : tie.Need-bounds-costs-s-then-is_less
+bounds-costs-s-then-is_less c = search rules
 
-same_length : tie.Need-same-length
-same_length c = search rules
+shape_of-kept : tie.Need-shape_of-kept
+shape_of-kept c = search rules
 
-same-length-2 : tie.Need-same-length-2
-same-length-2 c = search rules
+shape_of-costs : tie.Need-shape_of-costs
+shape_of-costs c = search rules
 
-returns : tie.Need-returns
-returns c =
-    let s = c.before.before.before.before.before.before.before.before.before.before.before.before.before.before in
+returns-then-is_less : tie.Need-returns-then-is_less
+returns-then-is_less c =
+    let s = c in
     let a = s.args in
-    let e = c.before.before.cheapest-edge in
+    let e = c.cheapest_edge-found in
     let kept-is = get_or-set_same a.kept.now a.s e.result.lower 0 (omega (arith, s.requires.0)) in
     let cost_is = get_or-set_same a.costs.now a.s c.nanometres.result 0 s.requires.0.3 ∙ c.nanometres.ensures in (
       stored_cheapest a.parents.now a.xs.now a.ys.now (Inside a.last a.kept.now) (set a.kept.now a.s e.result.lower) (set a.costs.now a.s c.nanometres.result) a.s e.result.lower e.result.added.0 kept-is cost_is e.ensures,
       (λ u d. get_or-set_other a.kept.now a.s u e.result.lower 0 d, λ u d. get_or-set_other a.costs.now a.s u c.nanometres.result 0 d),
     )
 
-returns-2 : tie.Need-returns-2
-returns-2 c =
-    let s = c.before.before.before.before.before.before.before.before.before.before in
+returns-else-is_less : tie.Need-returns-else-is_less
+returns-else-is_less c =
+    let s = c in
     let a = s.args in
-    let e = c.before.before.before.before.before.edge_to in
-    let low = ltb-false c.before.before.of.result.0 e.result.added.0 (sym c.before.is-less.ensures ∙ c.if1.false) in
-    (kept_cheapest a.parents.now a.xs.now a.ys.now a.last a.kept.now a.costs.now a.s s.requires.1 (omega (arith, low, e.ensures.1, c.before.before.of.ensures)), (λ u d. refl, λ u d. refl))
+    let e = c.edge_to-here in
+    let low = ltb-false c.of.result.0 e.result.added.0 (sym c.is_less.ensures ∙ c.if-is_less.false) in
+    (kept_cheapest a.parents.now a.xs.now a.ys.now a.last a.kept.now a.costs.now a.s s.requires.1 (omega (arith, low, e.ensures.1, c.of.ensures)), (λ u d. refl, λ u d. refl))
 
-pub find-edge-spec : {M : Type 1} → statement M
-find-edge-spec =
+pub find_edge_spec : {M : Type 1} → statement M
+find_edge_spec =
     tie.close
     (tie.spec
-    mul-v
-    slice-read-v
-    edge-to-requires
-    mul-of
-    slice-read-of
+    offset_bounds-kept-s
+    bounds-kept-s
+    edge_to-here-requires
+    offset_bounds-costs-s
+    bounds-costs-s
     of-requires
-    is-less-requires
-    cheapest-edge-requires
-    mul-kept
-    slice-write-kept
+    is_less-requires
+    cheapest_edge-found-requires
+    offset_bounds-kept-s-then-is_less
+    bounds-kept-s-then-is_less
     nanometres-requires
-    mul-costs
-    slice-write-costs
-    same_length
-    same-length-2
-    returns
-    returns-2)
+    offset_bounds-costs-s-then-is_less
+    bounds-costs-s-then-is_less
+    shape_of-kept
+    shape_of-costs
+    returns-then-is_less
+    returns-else-is_less)

@@ -8,36 +8,36 @@ use borrow.Author.Rules.{rules}
 use Rattle.short_tree.proofs.choose.is_behind.Statement.{statement}
 use Rattle.short_tree.proofs.choose.is_behind.Tie as tie
 
-mul-result : tie.Need-overflow-mul-result
-mul-result c = search rules
+offset_bounds-costs-best : tie.Need-offset_bounds-costs-best
+offset_bounds-costs-best c = search rules
 
-shared-slice-read-result : tie.Need-shared-slice-read-result
-shared-slice-read-result c = search rules
+bounds-costs-best : tie.Need-bounds-costs-best
+bounds-costs-best c = search rules
 
-mul-result-2 : tie.Need-overflow-mul-result-2
-mul-result-2 c = search rules
+offset_bounds-costs-s : tie.Need-offset_bounds-costs-s
+offset_bounds-costs-s c = search rules
 
-shared-slice-read-result-2 : tie.Need-shared-slice-read-result-2
-shared-slice-read-result-2 c = search rules
+bounds-costs-s : tie.Need-bounds-costs-s
+bounds-costs-s c = search rules
 
-returns : tie.Need-returns
-returns c =
-    let a = c.before.before.before.args in
-    sym (ap (λ (t : Bool). cond t false (leb (get_or a.costs.now a.best 0) (get_or a.costs.now a.s 0))) (ne_eqb a.best 0 c.before.before.if1.true))
+returns-then-best-ne0 : tie.Need-returns-then-best-ne0
+returns-then-best-ne0 c =
+    let a = c.args in
+    sym (ap (λ (t : Bool). cond t false (leb (get_or a.costs.now a.best 0) (get_or a.costs.now a.s 0))) (ne_eqb a.best 0 c.if-best-ne0.true))
 
-returns-2 : tie.Need-returns-2
-returns-2 c =
-    let a = c.before.args in
-    let e : eqb a.best 0 ≡ true = eq-eqb a.best 0 c.if1.false in
+returns-else-best-ne0 : tie.Need-returns-else-best-ne0
+returns-else-best-ne0 c =
+    let a = c.args in
+    let e : eqb a.best 0 ≡ true = eq-eqb a.best 0 c.if-best-ne0.false in
     ap not e ∙ sym (ap (λ (t : Bool). cond t false (leb (get_or a.costs.now a.best 0) (get_or a.costs.now a.s 0))) e)
 
-pub is-behind-spec : {M : Type 1} → statement M
-is-behind-spec =
+pub is_behind_spec : {M : Type 1} → statement M
+is_behind_spec =
     tie.close
     (tie.spec
-    mul-result
-    shared-slice-read-result
-    mul-result-2
-    shared-slice-read-result-2
-    returns
-    returns-2)
+    offset_bounds-costs-best
+    bounds-costs-best
+    offset_bounds-costs-s
+    bounds-costs-s
+    returns-then-best-ne0
+    returns-else-best-ne0)

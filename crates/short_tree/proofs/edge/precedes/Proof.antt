@@ -6,25 +6,25 @@ use Rattle.short_tree.proofs.Laws.Choosing.{leads_less, leads_lower}
 use Rattle.short_tree.proofs.edge.precedes.Statement.{statement}
 use Rattle.short_tree.proofs.edge.precedes.Tie as tie
 
-is-less-requires : tie.Need-is-less-requires
-is-less-requires c κs = search rules
+is_less-requires : tie.Need-is_less-requires
+is_less-requires c κs = search rules
+
+returns-then-is_less : tie.Need-returns-then-is_less
+returns-then-is_less c = let a = c.args in leads_less _ a.a.lower _ a.b.lower (ltb-true a.a.added.0 a.b.added.0 (sym c.is_less.ensures ∙ c.if-is_less.true))
+
+is_less-requires-2 : tie.Need-is_less-requires-2
+is_less-requires-2 c κs = search rules
+
+returns-then-is_less-2 : tie.Need-returns-then-is_less-2
+returns-then-is_less-2 c = let a = c.args in leads_less _ a.b.lower _ a.a.lower (ltb-true a.b.added.0 a.a.added.0 (sym c.is_less-2.ensures ∙ c.if-is_less-2.true))
 
 returns : tie.Need-returns
-returns c = let a = c.before.before.before.before.args in leads_less _ a.a.lower _ a.b.lower (ltb-true a.a.added.0 a.b.added.0 (sym c.before.is-less.ensures ∙ c.if1.true))
-
-is-less-requires-2 : tie.Need-is-less-requires-2
-is-less-requires-2 c κs = search rules
-
-returns-2 : tie.Need-returns-2
-returns-2 c = let a = c.before.before.before.before.before.before.args in leads_less _ a.b.lower _ a.a.lower (ltb-true a.b.added.0 a.a.added.0 (sym c.before.is-less2.ensures ∙ c.if2.true))
-
-returns-3 : tie.Need-returns-3
-returns-3 c =
-    let a = c.before.before.before.before.before.before.before.before.args in
+returns c =
+    let a = c.args in
     leads_lower a.a.added.0 a.a.lower a.b.added.0 a.b.lower
-    (ltb-false a.b.added.0 a.a.added.0 (sym c.before.before.before.is-less2.ensures ∙ c.before.before.if2.false))
-    (ltb-false a.a.added.0 a.b.added.0 (sym c.before.before.before.before.before.is-less.ensures ∙ c.before.before.before.before.if1.false))
+    (ltb-false a.b.added.0 a.a.added.0 (sym c.is_less-2.ensures ∙ c.if-is_less-2.false))
+    (ltb-false a.a.added.0 a.b.added.0 (sym c.is_less.ensures ∙ c.if-is_less.false))
 
-pub precedes-spec : {M : Type 1} → statement M
-precedes-spec =
-    tie.close (tie.spec is-less-requires returns is-less-requires-2 returns-2 returns-3)
+pub precedes_spec : {M : Type 1} → statement M
+precedes_spec =
+    tie.close (tie.spec is_less-requires returns-then-is_less is_less-requires-2 returns-then-is_less-2 returns)

@@ -8,48 +8,48 @@ use Rattle.short_tree.proofs.Laws.EdgeSearch.{scan_skip, scan_stay, scan_take}
 use Rattle.short_tree.proofs.edge.with_edge.Statement.{statement}
 use Rattle.short_tree.proofs.edge.with_edge.Tie as tie
 
-mul-if1 : tie.Need-overflow-mul-if1
-mul-if1 c = search rules
+offset_bounds-kept-v : tie.Need-offset_bounds-kept-v
+offset_bounds-kept-v c = search rules
 
-shared-slice-read-if1 : tie.Need-shared-slice-read-if1
-shared-slice-read-if1 c = let s = c.before.before.before in omega (arith, s.requires.1)
+bounds-kept-v : tie.Need-bounds-kept-v
+bounds-kept-v c = let s = c in omega (arith, s.requires.1)
 
-returns : tie.Need-returns
-returns c from C =
-    let a = c.before.before.before.before.args in
-    scan_skip a.kept.now a.parents.now a.xs.now a.ys.now a.s from a.v a.best.lower a.best.added.0 C c.if1.true
+returns-then-kept-v-ne0 : tie.Need-returns-then-kept-v-ne0
+returns-then-kept-v-ne0 c from C =
+    let a = c.args in
+    scan_skip a.kept.now a.parents.now a.xs.now a.ys.now a.s from a.v a.best.lower a.best.added.0 C c.if-kept-v-ne0.true
 
-edge-to-requires : tie.Need-edge-to-requires
-edge-to-requires c κs = let s = c.before.before.before.before in (s.requires.0, (s.requires.1.0, s.requires.1.1, s.requires.1.2, s.requires.1.3))
+edge_to-next-requires : tie.Need-edge_to-next-requires
+edge_to-next-requires c κs = let s = c in (s.requires.0, (s.requires.1.0, s.requires.1.1, s.requires.1.2, s.requires.1.3))
 
 precedes-requires : tie.Need-precedes-requires
 precedes-requires c κs = search rules
 
-returns-2 : tie.Need-returns-2
-returns-2 c from C =
-    let s = c.before.before.before.before.before.before.before in
+returns-then-precedes : tie.Need-returns-then-precedes
+returns-then-precedes c from C =
+    let s = c in
     let a = s.args in
-    let e = c.before.before.edge_to in
-    let L = leads_if c.before.precedes.result c.if2.true c.before.precedes.ensures in
+    let e = c.edge_to-next in
+    let L = leads_if c.precedes.result c.if-precedes.true c.precedes.ensures in
     let M = leads_same (added_at a.parents.now a.xs.now a.ys.now a.s a.v) a.v a.best.added.0 a.best.lower e.ensures.1 e.ensures.0 refl refl L in
-    scan_take a.kept.now a.parents.now a.xs.now a.ys.now a.s from a.v a.best.lower a.best.added.0 C s.requires.1.1 c.before.before.before.if1.false M e.result.lower e.result.added.0 e.ensures.0 e.ensures.1
+    scan_take a.kept.now a.parents.now a.xs.now a.ys.now a.s from a.v a.best.lower a.best.added.0 C s.requires.1.1 c.if-kept-v-ne0.false M e.result.lower e.result.added.0 e.ensures.0 e.ensures.1
 
-returns-3 : tie.Need-returns-3
-returns-3 c from C =
-    let a = c.before.before.before.before.before.before.before.args in
-    let e = c.before.before.edge_to in
-    let L = leads_else c.before.precedes.result c.if2.false c.before.precedes.ensures in
+returns : tie.Need-returns
+returns c from C =
+    let a = c.args in
+    let e = c.edge_to-next in
+    let L = leads_else c.precedes.result c.if-precedes.false c.precedes.ensures in
     let M = leads_same a.best.added.0 a.best.lower (added_at a.parents.now a.xs.now a.ys.now a.s a.v) a.v refl refl e.ensures.1 e.ensures.0 L in
     scan_stay a.kept.now a.parents.now a.xs.now a.ys.now a.s from a.v a.best.lower a.best.added.0 C M
 
-pub with-edge-spec : {M : Type 1} → statement M
-with-edge-spec =
+pub with_edge_spec : {M : Type 1} → statement M
+with_edge_spec =
     tie.close
     (tie.spec
-    mul-if1
-    shared-slice-read-if1
-    returns
-    edge-to-requires
+    offset_bounds-kept-v
+    bounds-kept-v
+    returns-then-kept-v-ne0
+    edge_to-next-requires
     precedes-requires
-    returns-2
-    returns-3)
+    returns-then-precedes
+    returns)

@@ -8,54 +8,54 @@ use borrow.Author.Rules.{rules}
 use Rattle.short_tree.proofs.grow.join.Statement.{statement}
 use Rattle.short_tree.proofs.grow.join.Tie as tie
 
-meeting-requires : tie.Need-meeting-requires
-meeting-requires c κs = search rules
+meeting-m-requires : tie.Need-meeting-m-requires
+meeting-m-requires c κs = search rules
 
-mul-x : tie.Need-overflow-mul-x
-mul-x c = search rules
+offset_bounds-xs-b : tie.Need-offset_bounds-xs-b
+offset_bounds-xs-b c = search rules
 
-slice-set-from-x : tie.Need-slice-set-from-x
-slice-set-from-x c = search rules
+bounds-xs-b : tie.Need-bounds-xs-b
+bounds-xs-b c = search rules
 
-mul-y : tie.Need-overflow-mul-y
-mul-y c = search rules
+offset_bounds-ys-b : tie.Need-offset_bounds-ys-b
+offset_bounds-ys-b c = search rules
 
-slice-set-from-y : tie.Need-slice-set-from-y
-slice-set-from-y c = search rules
+bounds-ys-b : tie.Need-bounds-ys-b
+bounds-ys-b c = search rules
 
-split-edge-requires : tie.Need-split-edge-requires
-split-edge-requires c κs = search rules
+split_edge-requires : tie.Need-split_edge-requires
+split_edge-requires c κs = search rules
 
-same_length : tie.Need-same-length
-same_length c = search rules
+shape_of-xs : tie.Need-shape_of-xs
+shape_of-xs c = search rules
 
-same-length-2 : tie.Need-same-length-2
-same-length-2 c = search rules
+shape_of-ys : tie.Need-shape_of-ys
+shape_of-ys c = search rules
 
-same-length-3 : tie.Need-same-length-3
-same-length-3 c = search rules
+shape_of-parents : tie.Need-shape_of-parents
+shape_of-parents c = search rules
 
 returns : tie.Need-returns
 returns c =
-    let a = c.before.before.before.before.before.before.before.before.before.before.before.args in
-    let m = c.before.before.before.before.before.before.meeting in
-    let x = to_z-of_z (fit m.result.x c.before.before.before.before.before.struct_told.given.0.1) in
-    let y = to_z-of_z (fit m.result.y c.before.before.before.before.struct-told2.given.1.0.1) in (
+    let a = c.args in
+    let m = c.meeting-m in
+    let x = to_z-of_z (fit m.result.x c.struct_told-1.given.0.1) in
+    let y = to_z-of_z (fit m.result.y c.struct_told-2-1.given.1.0.1) in (
       ap (set a.xs.now a.b) x ∙ ap (λ (q : Point). set a.xs.now a.b q.x) m.ensures,
-      (ap (set a.ys.now a.b) y ∙ ap (λ (q : Point). set a.ys.now a.b q.y) m.ensures, c.before.before.split-edge.ensures),
+      (ap (set a.ys.now a.b) y ∙ ap (λ (q : Point). set a.ys.now a.b q.y) m.ensures, c.split_edge.ensures),
     )
 
-pub join-spec : {M : Type 1} → statement M
-join-spec =
+pub join_spec : {M : Type 1} → statement M
+join_spec =
     tie.close
     (tie.spec
-    meeting-requires
-    mul-x
-    slice-set-from-x
-    mul-y
-    slice-set-from-y
-    split-edge-requires
-    same_length
-    same-length-2
-    same-length-3
+    meeting-m-requires
+    offset_bounds-xs-b
+    bounds-xs-b
+    offset_bounds-ys-b
+    bounds-ys-b
+    split_edge-requires
+    shape_of-xs
+    shape_of-ys
+    shape_of-parents
     returns)

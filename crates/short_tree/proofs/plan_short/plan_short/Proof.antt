@@ -6,64 +6,64 @@ use borrow.Author.Rules.{rules}
 use Rattle.short_tree.proofs.plan_short.plan_short.Statement.{statement}
 use Rattle.short_tree.proofs.plan_short.plan_short.Tie as tie
 
-read-head-requires : tie.Need-read-head-requires
-read-head-requires c κs = search rules
+read_head-requires : tie.Need-read_head-requires
+read_head-requires c κs = search rules
 
-enum-known-refusal : tie.Need-enum-known-refusal
-enum-known-refusal c = search rules
+enum_known-refusal : tie.Need-enum_known-refusal
+enum_known-refusal c = search rules
 
-enum-known-header : tie.Need-enum-known-header
-enum-known-header c = search rules
+enum_known-header : tie.Need-enum_known-header
+enum_known-header c = search rules
 
-plan-small-requires : tie.Need-plan-small-requires
-plan-small-requires c κs =
-    let w = rw c.before.before.before.header.given.1 at c.before.before.before.before.before.read_head.ensures in
-    (w.0, (c.before.if1.true, w.1.1, w.1.2, w.1.3))
+plan_small-requires : tie.Need-plan_small-requires
+plan_small-requires c κs =
+    let w = rw c.header-1.given.1 at c.read_head.ensures in
+    (w.0, (c.if-n-le16.true, w.1.1, w.1.2, w.1.3))
 
-plan-medium-requires : tie.Need-plan-medium-requires
-plan-medium-requires c κs =
-    let w = rw c.before.before.before.before.header.given.1 at c.before.before.before.before.before.before.read_head.ensures in
-    (w.0, (c.before.if2.true, w.1.1, w.1.2, w.1.3))
+plan_medium-requires : tie.Need-plan_medium-requires
+plan_medium-requires c κs =
+    let w = rw c.header-1.given.1 at c.read_head.ensures in
+    (w.0, (c.if-n-le64.true, w.1.1, w.1.2, w.1.3))
 
-plan-large-requires : tie.Need-plan-large-requires
-plan-large-requires c κs =
-    rw c.before.before.before.before.header.given.1 at c.before.before.before.before.before.before.read_head.ensures
+plan_large-requires : tie.Need-plan_large-requires
+plan_large-requires c κs =
+    rw c.header-1.given.1 at c.read_head.ensures
 
-returns : tie.Need-returns
-returns c = tree_refused_answer (ignoring_weights short) _ _ _ (rw c.before.refusal.given.1 at c.before.before.before.read_head.ensures)
+returns-in-HeadRefused : tie.Need-returns-in-HeadRefused
+returns-in-HeadRefused c = tree_refused_answer (ignoring_weights short) _ _ _ (rw c.refusal-1.given.1 at c.read_head.ensures)
 
-same_length : tie.Need-same-length
-same_length c = search rules
+shape_of-out-then-n-le16 : tie.Need-shape_of-out-then-n-le16
+shape_of-out-then-n-le16 c = search rules
 
-returns-2 : tie.Need-returns-2
-returns-2 c = search rules
+returns-then-n-le16 : tie.Need-returns-then-n-le16
+returns-then-n-le16 c = search rules
 
-same-length-2 : tie.Need-same-length-2
-same-length-2 c = search rules
+shape_of-out-then-n-le64 : tie.Need-shape_of-out-then-n-le64
+shape_of-out-then-n-le64 c = search rules
 
-returns-3 : tie.Need-returns-3
-returns-3 c = search rules
+returns-then-n-le64 : tie.Need-returns-then-n-le64
+returns-then-n-le64 c = search rules
 
-same-length-3 : tie.Need-same-length-3
-same-length-3 c = search rules
+shape_of-out-else-n-le64 : tie.Need-shape_of-out-else-n-le64
+shape_of-out-else-n-le64 c = search rules
 
-returns-4 : tie.Need-returns-4
-returns-4 c = search rules
+returns-else-n-le64 : tie.Need-returns-else-n-le64
+returns-else-n-le64 c = search rules
 
-pub plan-short-spec : {M : Type 1} → statement M
-plan-short-spec =
+pub plan_short_spec : {M : Type 1} → statement M
+plan_short_spec =
     tie.close
     (tie.spec
-    read-head-requires
-    enum-known-refusal
-    enum-known-header
-    plan-small-requires
-    plan-medium-requires
-    plan-large-requires
-    returns
-    same_length
-    returns-2
-    same-length-2
-    returns-3
-    same-length-3
-    returns-4)
+    read_head-requires
+    enum_known-refusal
+    enum_known-header
+    plan_small-requires
+    plan_medium-requires
+    plan_large-requires
+    returns-in-HeadRefused
+    shape_of-out-then-n-le16
+    returns-then-n-le16
+    shape_of-out-then-n-le64
+    returns-then-n-le64
+    shape_of-out-else-n-le64
+    returns-else-n-le64)

@@ -4,58 +4,58 @@ use borrow.Author.Rules.{rules}
 use Rattle.short_tree.proofs.plan_short.plan_small.Statement.{statement}
 use Rattle.short_tree.proofs.plan_short.plan_small.Tie as tie
 
-slice-aggregate-plan-rest : tie.Need-slice-aggregate-plan-rest
-slice-aggregate-plan-rest c = search rules
+slice_bounds-plan_rest-end : tie.Need-slice_bounds-plan_rest-end
+slice_bounds-plan_rest-end c = search rules
 
-slice-aggregate-plan-rest-2 : tie.Need-slice-aggregate-plan-rest-2
-slice-aggregate-plan-rest-2 c = search rules
+slice_bounds-plan_rest-end-2 : tie.Need-slice_bounds-plan_rest-end-2
+slice_bounds-plan_rest-end-2 c = search rules
 
-slice-aggregate-plan-rest-3 : tie.Need-slice-aggregate-plan-rest-3
-slice-aggregate-plan-rest-3 c = search rules
+slice_bounds-plan_rest-end-3 : tie.Need-slice_bounds-plan_rest-end-3
+slice_bounds-plan_rest-end-3 c = search rules
 
-slice-aggregate-plan-rest-4 : tie.Need-slice-aggregate-plan-rest-4
-slice-aggregate-plan-rest-4 c = search rules
+slice_bounds-plan_rest-end-4 : tie.Need-slice_bounds-plan_rest-end-4
+slice_bounds-plan_rest-end-4 c = search rules
 
-slice-aggregate-plan-rest-5 : tie.Need-slice-aggregate-plan-rest-5
-slice-aggregate-plan-rest-5 c = search rules
+slice_bounds-plan_rest-end-5 : tie.Need-slice_bounds-plan_rest-end-5
+slice_bounds-plan_rest-end-5 c = search rules
 
-slice-aggregate-plan-rest-6 : tie.Need-slice-aggregate-plan-rest-6
-slice-aggregate-plan-rest-6 c = search rules
+slice_bounds-plan_rest-end-6 : tie.Need-slice_bounds-plan_rest-end-6
+slice_bounds-plan_rest-end-6 c = search rules
 
-slice-aggregate-plan-rest-7 : tie.Need-slice-aggregate-plan-rest-7
-slice-aggregate-plan-rest-7 c = search rules
+slice_bounds-plan_rest-end-7 : tie.Need-slice_bounds-plan_rest-end-7
+slice_bounds-plan_rest-end-7 c = search rules
 
-slice-aggregate-plan-rest-8 : tie.Need-slice-aggregate-plan-rest-8
-slice-aggregate-plan-rest-8 c = search rules
+slice_bounds-plan_rest-end-8 : tie.Need-slice_bounds-plan_rest-end-8
+slice_bounds-plan_rest-end-8 c = search rules
 
-slice-aggregate-plan-rest-9 : tie.Need-slice-aggregate-plan-rest-9
-slice-aggregate-plan-rest-9 c = search rules
+slice_bounds-plan_rest-end-9 : tie.Need-slice_bounds-plan_rest-end-9
+slice_bounds-plan_rest-end-9 c = search rules
 
-plan-rest-requires : tie.Need-plan-rest-requires
-plan-rest-requires c κs =
-    let p = c.before.before.before.before.before.before.before.before.before.before.before.before.requires in
+plan_rest-requires : tie.Need-plan_rest-requires
+plan_rest-requires c κs =
+    let p = c.requires in
     let q = p.1.0 in
     ((p.0, (omega (arith, q), p.1.1, p.1.2, p.1.3)), (omega (arith, q), record { tree = record { xs_long = omega (arith, q); ys_long = omega (arith, q); parents_long = omega (arith, q); kept_long = omega (arith, q); costs_long = omega (arith, q) }; second_long = omega (arith, q); queue_long = omega (arith, q); slacks_long = omega (arith, q) }))
 
-same_length : tie.Need-same-length
-same_length c = search rules
+shape_of-out : tie.Need-shape_of-out
+shape_of-out c = search rules
 
 returns : tie.Need-returns
 returns c = search rules
 
-pub plan-small-spec : {M : Type 1} → statement M
-plan-small-spec =
+pub plan_small_spec : {M : Type 1} → statement M
+plan_small_spec =
     tie.close
     (tie.spec
-    slice-aggregate-plan-rest
-    slice-aggregate-plan-rest-2
-    slice-aggregate-plan-rest-3
-    slice-aggregate-plan-rest-4
-    slice-aggregate-plan-rest-5
-    slice-aggregate-plan-rest-6
-    slice-aggregate-plan-rest-7
-    slice-aggregate-plan-rest-8
-    slice-aggregate-plan-rest-9
-    plan-rest-requires
-    same_length
+    slice_bounds-plan_rest-end
+    slice_bounds-plan_rest-end-2
+    slice_bounds-plan_rest-end-3
+    slice_bounds-plan_rest-end-4
+    slice_bounds-plan_rest-end-5
+    slice_bounds-plan_rest-end-6
+    slice_bounds-plan_rest-end-7
+    slice_bounds-plan_rest-end-8
+    slice_bounds-plan_rest-end-9
+    plan_rest-requires
+    shape_of-out
     returns)

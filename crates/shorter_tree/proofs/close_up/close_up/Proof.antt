@@ -10,70 +10,70 @@ use Rattle.shorter_tree.proofs.Laws.Closing.{Closing, closing_none, closing_more
 use Rattle.shorter_tree.proofs.close_up.close_up.Statement.{statement}
 use Rattle.shorter_tree.proofs.close_up.close_up.Tie as tie
 
-abbrev invariant-loop : tie.invariant-loop
-invariant-loop values₀ s b m x₀ values x = (1 ≤ x) × (length values ≡ length values₀) × Closing (pos 0) (λ z. z) s b x values₀ values
+abbrev invariant-loop-x : tie.invariant-loop-x
+invariant-loop-x values₀ s b m x₀ values x = (1 ≤ x) × (length values ≡ length values₀) × Closing (pos 0) (λ z. z) s b x values₀ values
 
-abbrev decreases-loop : tie.decreases-loop
-decreases-loop values₀ s b m x₀ values x = m - x
+abbrev decreases-loop-x : tie.decreases-loop-x
+decreases-loop-x values₀ s b m x₀ values x = m - x
 
-loop-holds : tie.Need-loop-init invariant-loop decreases-loop
-loop-holds c = let a = c.args in (omega arith, refl, closing_none (pos 0) (λ z. z) a.s a.b a.values.now)
+loop-x-init : tie.Need-loop-x-init invariant-loop-x decreases-loop-x
+loop-x-init c = let a = c.args in (omega arith, refl, closing_none (pos 0) (λ z. z) a.s a.b a.values.now)
 
-old-number-requires : tie.Need-old-number-requires invariant-loop decreases-loop
-old-number-requires c κs = (c.before.before.requires.1, omega arith)
+old_number-v-requires : tie.Need-old_number-v-requires invariant-loop-x decreases-loop-x
+old_number-v-requires c κs = (c.requires.1, omega arith)
 
-mul-z : tie.Need-overflow-mul-z invariant-loop decreases-loop
-mul-z c = let a = c.before.before.before in omega (arith, c.old-number.ensures, old_le a.args.s a.args.b c.before.before.loop.x)
+offset_bounds-values-v : tie.Need-offset_bounds-values-v invariant-loop-x decreases-loop-x
+offset_bounds-values-v c = let a = c in omega (arith, c.old_number-v.ensures, old_le a.args.s a.args.b c.loop-x.x)
 
-slice-copy-out-z : tie.Need-slice-copy-out-z invariant-loop decreases-loop
-slice-copy-out-z c = let a = c.before.before.before in omega (arith, c.old-number.ensures, a.requires.4 c.before.before.loop.x (omega arith))
+slice_copy_out-z : tie.Need-slice_copy_out-z invariant-loop-x decreases-loop-x
+slice_copy_out-z c = let a = c in omega (arith, c.old_number-v.ensures, a.requires.4 c.loop-x.x (omega arith))
 
-mul-z-2 : tie.Need-overflow-mul-z-2 invariant-loop decreases-loop
-mul-z-2 c = omega arith
+offset_bounds-values-x : tie.Need-offset_bounds-values-x invariant-loop-x decreases-loop-x
+offset_bounds-values-x c = omega arith
 
-slice-set-from-z : tie.Need-slice-set-from-z invariant-loop decreases-loop
-slice-set-from-z c = omega arith
+bounds-values-x : tie.Need-bounds-values-x invariant-loop-x decreases-loop-x
+bounds-values-x c = omega arith
 
-add-x : tie.Need-overflow-add-x invariant-loop decreases-loop
-add-x c = omega arith
+overflow_add-x : tie.Need-overflow_add-x invariant-loop-x decreases-loop-x
+overflow_add-x c = omega arith
 
-loop-less : tie.Need-loop-smaller invariant-loop decreases-loop
-loop-less c = omega arith
+loop-x-smaller : tie.Need-loop-x-smaller invariant-loop-x decreases-loop-x
+loop-x-smaller c = omega arith
 
-loop-again : tie.Need-loop-preserved invariant-loop decreases-loop
-loop-again c =
-    let a = c.before.before.before.before.args in
-    let l = c.before.before.before.loop in
-    let v = c.before.old-number in (
+loop-x-preserved : tie.Need-loop-x-preserved invariant-loop-x decreases-loop-x
+loop-x-preserved c =
+    let a = c.args in
+    let l = c.loop-x in
+    let v = c.old_number-v in (
       omega arith,
       length-set l.values l.x (rd (get_or l.values v.result (pos 0))) ∙ l.invariant.1,
       closing_more (pos 0) (λ z. z) a.s a.b l.x a.values.now l.values (rd (get_or l.values v.result (pos 0))) (omega arith) (omega arith)
-          (to_z-of_z (fit (get_or l.values v.result (pos 0)) c.z.given) ∙ ap (λ i. get_or l.values i (pos 0)) v.ensures) l.invariant.2,
+          (to_z-of_z (fit (get_or l.values v.result (pos 0)) c.z-1.given) ∙ ap (λ i. get_or l.values i (pos 0)) v.ensures) l.invariant.2,
     )
 
-same_length : tie.Need-same-length invariant-loop decreases-loop
-same_length c = omega arith
+shape_of-values : tie.Need-shape_of-values invariant-loop-x decreases-loop-x
+shape_of-values c = omega arith
 
-returns : tie.Need-returns invariant-loop decreases-loop
+returns : tie.Need-returns invariant-loop-x decreases-loop-x
 returns c =
-    let a = c.before.before.args in
-    let l = c.before.loop in
+    let a = c.args in
+    let l = c.loop-x in
     (closing_end (pos 0) (λ z. z) a.s a.b l.x a.m a.values.now l.values (omega arith) l.invariant.2, l.invariant.2.first)
 
-pub close-up-spec : {M : Type 1} → statement M
-close-up-spec =
+pub close_up_spec : {M : Type 1} → statement M
+close_up_spec =
     tie.close
     (tie.spec
-    invariant-loop
-    decreases-loop
-    loop-holds
-    old-number-requires
-    mul-z
-    slice-copy-out-z
-    mul-z-2
-    slice-set-from-z
-    add-x
-    loop-less
-    loop-again
-    same_length
+    invariant-loop-x
+    decreases-loop-x
+    loop-x-init
+    old_number-v-requires
+    offset_bounds-values-v
+    slice_copy_out-z
+    offset_bounds-values-x
+    bounds-values-x
+    overflow_add-x
+    loop-x-smaller
+    loop-x-preserved
+    shape_of-values
     returns)

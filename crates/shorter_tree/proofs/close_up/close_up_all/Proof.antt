@@ -32,84 +32,84 @@ sinks s long l =
     let a = s.args in
     (s.requires.0.3, omega (arith, branch s, s.requires.0), omega (arith, s.requires.0.0.few), omega arith, λ x h. omega (arith, old_sink_below a.n a.s (gone s) x (branch s).0 h))
 
-mul-b : tie.Need-overflow-mul-b
-mul-b c = search rules
+offset_bounds-parents-s : tie.Need-offset_bounds-parents-s
+offset_bounds-parents-s c = search rules
 
-slice-read-b : tie.Need-slice-read-b
-slice-read-b c = search rules
+bounds-parents-s : tie.Need-bounds-parents-s
+bounds-parents-s c = search rules
 
-mul-a : tie.Need-overflow-mul-a
-mul-a c = omega (arith, branch c.before.before, c.before.before.requires.0.0.few)
+offset_bounds-parents-b : tie.Need-offset_bounds-parents-b
+offset_bounds-parents-b c = omega (arith, branch c.before.before, c.requires.0.0.few)
 
-slice-read-a : tie.Need-slice-read-a
-slice-read-a c = omega (arith, branch c.before.before.before, c.before.before.before.requires.0.0.long)
+bounds-parents-b : tie.Need-bounds-parents-b
+bounds-parents-b c = omega (arith, branch c.before.before.before, c.requires.0.0.long)
 
-mul-m : tie.Need-overflow-mul-m
-mul-m c = search rules
+overflow_mul-m : tie.Need-overflow_mul-m
+overflow_mul-m c = search rules
 
-sub-m : tie.Need-overflow-sub-m
-sub-m c = search rules
+overflow_sub-m : tie.Need-overflow_sub-m
+overflow_sub-m c = search rules
 
-close-up-parents-requires : tie.Need-close-up-parents-requires
-close-up-parents-requires c κs = let s = c.before.before.before.before in vertices s _ _ (omega (arith, s.requires.0)) s.requires.0.0.long
+close_up_parents-requires : tie.Need-close_up_parents-requires
+close_up_parents-requires c κs = let s = c in vertices s _ _ (omega (arith, s.requires.0)) s.requires.0.0.long
 
-close-up-requires : tie.Need-close-up-requires
-close-up-requires c κs = let s = c.before.before.before.before.before.before.before.before in vertices s _ _ (omega (arith, s.requires.0)) s.requires.1.0
+close_up-requires : tie.Need-close_up-requires
+close_up-requires c κs = let s = c in vertices s _ _ (omega (arith, s.requires.0)) s.requires.1.0
 
-close-up-requires-2 : tie.Need-close-up-requires-2
-close-up-requires-2 c κs = let s = c.before.before.before.before.before.before.before.before.before.before.before in vertices s _ _ (omega (arith, s.requires.0)) s.requires.1.1
+close_up-requires-2 : tie.Need-close_up-requires-2
+close_up-requires-2 c κs = let s = c in vertices s _ _ (omega (arith, s.requires.0)) s.requires.1.1
 
-close-up-requires-3 : tie.Need-close-up-requires-3
-close-up-requires-3 c κs = let s = c.before.before.before.before.before.before.before.before.before.before.before.before.before.before in sinks s _ s.requires.1.2
+close_up-requires-3 : tie.Need-close_up-requires-3
+close_up-requires-3 c κs = let s = c in sinks s _ s.requires.1.2
 
-close-up-requires-4 : tie.Need-close-up-requires-4
-close-up-requires-4 c κs = let s = c.before.before.before.before.before.before.before.before.before.before.before.before.before.before.before.before.before in sinks s _ s.requires.1.3
+close_up-requires-4 : tie.Need-close_up-requires-4
+close_up-requires-4 c κs = let s = c in sinks s _ s.requires.1.3
 
-same_length : tie.Need-same-length
-same_length c = search rules
+shape_of-parents : tie.Need-shape_of-parents
+shape_of-parents c = search rules
 
-same-length-2 : tie.Need-same-length-2
-same-length-2 c = search rules
+shape_of-xs : tie.Need-shape_of-xs
+shape_of-xs c = search rules
 
-same-length-3 : tie.Need-same-length-3
-same-length-3 c = search rules
+shape_of-ys : tie.Need-shape_of-ys
+shape_of-ys c = search rules
 
-same-length-4 : tie.Need-same-length-4
-same-length-4 c = search rules
+shape_of-required : tie.Need-shape_of-required
+shape_of-required c = search rules
 
-same-length-5 : tie.Need-same-length-5
-same-length-5 c = search rules
+shape_of-weights : tie.Need-shape_of-weights
+shape_of-weights c = search rules
 
 returns : tie.Need-returns
 returns c =
-    let s = c.before.before.before.before.before.before.before.before.before.before.before.before.before.before.before.before.before.before.before in
+    let s = c in
     let a = s.args in
-    let ps = c.before.before.before.before.before.before.before.before.before.before.before.before.before.before.close-up-parents in
-    let xs = c.before.before.before.before.before.before.before.before.before.before.close_up in
-    let ys = c.before.before.before.before.before.before.before.close-up2 in
-    let rs = c.before.before.before.before.close-up3 in
-    let ws = c.before.close-up4 in
-    holds_shorter a.n a.s a.parents.now s.requires.0.1 s.requires.0.2 s.requires.0.3 s.requires.0.4 ps.new.0 a.xs.now a.ys.now a.required.now a.weights.now xs.new.0 ys.new.0 rs.new.0 ws.new.0
+    let ps = c.close_up_parents in
+    let xs = c.close_up in
+    let ys = c.close_up-2 in
+    let rs = c.close_up-3 in
+    let ws = c.close_up-4 in
+    holds_shorter a.n a.s a.parents.now s.requires.0.1 s.requires.0.2 s.requires.0.3 s.requires.0.4 ps.new.parents a.xs.now a.ys.now a.required.now a.weights.now xs.new.values ys.new.values rs.new.values ws.new.values
     ps.ensures xs.ensures.0 xs.ensures.1 ys.ensures.0 ys.ensures.1 rs.ensures.0 ws.ensures.0
 
-pub close-up-all-spec : {M : Type 1} → statement M
-close-up-all-spec =
+pub close_up_all_spec : {M : Type 1} → statement M
+close_up_all_spec =
     tie.close
     (tie.spec
-    mul-b
-    slice-read-b
-    mul-a
-    slice-read-a
-    mul-m
-    sub-m
-    close-up-parents-requires
-    close-up-requires
-    close-up-requires-2
-    close-up-requires-3
-    close-up-requires-4
-    same_length
-    same-length-2
-    same-length-3
-    same-length-4
-    same-length-5
+    offset_bounds-parents-s
+    bounds-parents-s
+    offset_bounds-parents-b
+    bounds-parents-b
+    overflow_mul-m
+    overflow_sub-m
+    close_up_parents-requires
+    close_up-requires
+    close_up-requires-2
+    close_up-requires-3
+    close_up-requires-4
+    shape_of-parents
+    shape_of-xs
+    shape_of-ys
+    shape_of-required
+    shape_of-weights
     returns)

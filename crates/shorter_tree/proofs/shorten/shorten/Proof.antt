@@ -28,85 +28,85 @@ module _ (s : tie.Start) (ps : List ℕ) (xs ys rs ws : List ℤ)
     tree : HoldsTree (s.args.n - 1) ps xs ys
     tree = let a = s.args in shortened_tree a.header a.n a.s a.parents.now a.xs.now a.ys.now a.required.now a.weights.now s.pre.0 s.pre.1.0 s.pre.1.1 s.pre.1.2 ps xs ys rs ws closed same_p same_x same_y
 
-close-up-all-requires : tie.Need-close-up-all-requires
-close-up-all-requires c κs = search rules
+close_up_all-requires : tie.Need-close_up_all-requires
+close_up_all-requires c κs = search rules
 
-sub-m : tie.Need-overflow-sub-m
-sub-m c = search rules
+overflow_sub-m : tie.Need-overflow_sub-m
+overflow_sub-m c = search rules
 
-lowest-unreached-requires : tie.Need-lowest-unreached-requires
-lowest-unreached-requires c κs =
-    let s = c.before.before.before.before.before.before.before.before.before.before.before.before.before.before.before.before.before.before.before.before in
-    let k = c.before.before.before.before.before.before.before.before.before.before.close-up-all in
-    let l = k.new.1.1 in
-    let kept = k.auto.1.1 in
+lowest_unreached-requires : tie.Need-lowest_unreached-requires
+lowest_unreached-requires c κs =
+    let s = c in
+    let k = c.close_up_all in
+    let l = k.new.parents in
+    let kept = k.auto.parents in
     let room = s.requires.1.3 in (
       ((tree s l.0 l.1.0 l.1.1.0 l.1.1.1.0 l.1.1.1.1.0 k.ensures kept.0 kept.1.0 kept.1.1.0).parents_in_lem, (whole s l.0 l.1.0 l.1.1.0 l.1.1.1.0 l.1.1.1.1.0 k.ensures).0),
       (omega (arith, room.0), omega (arith, room.1), omega (arith, room.2)),
     )
 
-measure-tree-requires : tie.Need-measure-tree-requires
-measure-tree-requires c κs =
-    let s = c.before.before.before.before.before.before.before.before.before.before.before.before.before.before.before.before.before.before.before.before.before.before.before.before.before.before.before.before.before.before.before.before.before in
-    let k = c.before.before.before.before.before.before.before.before.before.before.before.before.before.before.before.before.before.before.before.before.before.before.before.close-up-all in
-    let u = c.before.before.before.before.before.before.before.before.before.before.before.before.lowest-unreached in
-    let l = k.new.1.1 in
-    let kept = k.auto.1.1 in (
+measure_tree-requires : tie.Need-measure_tree-requires
+measure_tree-requires c κs =
+    let s = c in
+    let k = c.close_up_all in
+    let u = c.lowest_unreached in
+    let l = k.new.parents in
+    let kept = k.auto.parents in (
       net s l.0 l.1.0 l.1.1.0 l.1.1.1.0 l.1.1.1.1.0 k.ensures kept.0 kept.1.0 kept.1.1.0 kept.1.1.1.0,
       tree s l.0 l.1.0 l.1.1.0 l.1.1.1.0 l.1.1.1.1.0 k.ensures kept.0 kept.1.0 kept.1.1.0,
       u.ensures.1 (u.ensures.0 ∙ (whole s l.0 l.1.0 l.1.1.0 l.1.1.1.0 l.1.1.1.1.0 k.ensures).1),
       omega (arith, s.requires.1.3.3),
     )
 
-same_length : tie.Need-same-length
-same_length c = search rules
+shape_of-parents : tie.Need-shape_of-parents
+shape_of-parents c = search rules
 
-same-length-2 : tie.Need-same-length-2
-same-length-2 c = search rules
+shape_of-xs : tie.Need-shape_of-xs
+shape_of-xs c = search rules
 
-same-length-3 : tie.Need-same-length-3
-same-length-3 c = search rules
+shape_of-ys : tie.Need-shape_of-ys
+shape_of-ys c = search rules
 
-same-length-4 : tie.Need-same-length-4
-same-length-4 c = search rules
+shape_of-required : tie.Need-shape_of-required
+shape_of-required c = search rules
 
-same-length-5 : tie.Need-same-length-5
-same-length-5 c = search rules
+shape_of-weights : tie.Need-shape_of-weights
+shape_of-weights c = search rules
 
-same-length-6 : tie.Need-same-length-6
-same-length-6 c = search rules
+shape_of-first : tie.Need-shape_of-first
+shape_of-first c = search rules
 
-same-length-7 : tie.Need-same-length-7
-same-length-7 c = search rules
+shape_of-second : tie.Need-shape_of-second
+shape_of-second c = search rules
 
-same-length-8 : tie.Need-same-length-8
-same-length-8 c = search rules
+shape_of-queue : tie.Need-shape_of-queue
+shape_of-queue c = search rules
 
-same-length-9 : tie.Need-same-length-9
-same-length-9 c = search rules
+shape_of-slacks : tie.Need-shape_of-slacks
+shape_of-slacks c = search rules
 
 returns : tie.Need-returns
 returns c =
-    let h = c.before.before.before.before.before.before.before.before.before.before.before.before.before.before.before.before.before.before.before.before.before.before.before.before.before.before.before.before.before.before.before.before.before.before.before.args.header in
-    let k = c.before.before.before.before.before.before.before.before.before.before.before.before.before.before.before.before.before.before.before.before.before.before.before.before.before.close-up-all in
-    let m = c.before.measure-tree in
+    let h = c.args.header in
+    let k = c.close_up_all in
+    let m = c.measure_tree in
     (k.ensures, (m.ensures.0 ∙ (λ i. worst_slack (k.ensures.net h i) (k.ensures.tree h i)), m.ensures.1 ∙ (λ i. wire_length (k.ensures.net h i) (k.ensures.tree h i))))
 
-pub shorten-spec : {M : Type 1} → statement M
-shorten-spec =
+pub shorten_spec : {M : Type 1} → statement M
+shorten_spec =
     tie.close
     (tie.spec
-    close-up-all-requires
-    sub-m
-    lowest-unreached-requires
-    measure-tree-requires
-    same_length
-    same-length-2
-    same-length-3
-    same-length-4
-    same-length-5
-    same-length-6
-    same-length-7
-    same-length-8
-    same-length-9
+    close_up_all-requires
+    overflow_sub-m
+    lowest_unreached-requires
+    measure_tree-requires
+    shape_of-parents
+    shape_of-xs
+    shape_of-ys
+    shape_of-required
+    shape_of-weights
+    shape_of-first
+    shape_of-second
+    shape_of-queue
+    shape_of-slacks
     returns)

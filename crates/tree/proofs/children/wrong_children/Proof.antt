@@ -6,44 +6,44 @@ use Rattle.tree.proofs.Laws.Trees.Counting.{root_wrong, root_right}
 use Rattle.tree.proofs.children.wrong_children.Statement.{statement}
 use Rattle.tree.proofs.children.wrong_children.Tie as tie
 
-count-children-requires : tie.Need-count-children-requires
-count-children-requires c κs = search rules
+count_children-requires : tie.Need-count_children-requires
+count_children-requires c κs = search rules
 
-slice-read-if1 : tie.Need-slice-read-if1
-slice-read-if1 c = search rules
+bounds-children-0 : tie.Need-bounds-children-0
+bounds-children-0 c = search rules
 
-same_length : tie.Need-same-length
-same_length c = search rules
+shape_of-children-then-children-ne1 : tie.Need-shape_of-children-then-children-ne1
+shape_of-children-then-children-ne1 c = search rules
+
+returns-then-children-ne1 : tie.Need-returns-then-children-ne1
+returns-then-children-ne1 c =
+    let a = c.args in
+    let w = c.count_children in
+    let some_sink = c.requires.0.some in
+    sym (root_wrong a.n (parents_of a.n a.parents.now) w.new.children some_sink w.ensures c.if-children-ne1.true)
+
+wrong_branch_point-requires : tie.Need-wrong_branch_point-requires
+wrong_branch_point-requires c κs = search rules
+
+shape_of-children : tie.Need-shape_of-children
+shape_of-children c = search rules
 
 returns : tie.Need-returns
 returns c =
-    let a = c.before.before.before.before.before.before.before.before.args in
-    let w = c.before.before.before.before.count-children in
-    let some_sink = c.before.before.before.before.before.before.before.before.requires.0.some in
-    sym (root_wrong a.n (parents_of a.n a.parents.now) w.new.1.1.0 some_sink w.ensures c.if1.true)
+    let a = c.args in
+    let w = c.count_children in
+    let some_sink = c.requires.0.some in
+    c.wrong_branch_point.ensures
+    ∙ sym (root_right a.n (parents_of a.n a.parents.now) w.new.children some_sink w.ensures c.if-children-ne1.false)
 
-wrong-branch-point-requires : tie.Need-wrong-branch-point-requires
-wrong-branch-point-requires c κs = search rules
-
-same-length-2 : tie.Need-same-length-2
-same-length-2 c = search rules
-
-returns-2 : tie.Need-returns-2
-returns-2 c =
-    let a = c.before.before.before.before.before.before.before.before.before.before.args in
-    let w = c.before.before.before.before.before.before.count-children in
-    let some_sink = c.before.before.before.before.before.before.before.before.before.before.requires.0.some in
-    c.wrong-branch-point.ensures
-    ∙ sym (root_right a.n (parents_of a.n a.parents.now) w.new.1.1.0 some_sink w.ensures c.before.before.if1.false)
-
-pub wrong-children-spec : {M : Type 1} → statement M
-wrong-children-spec =
+pub wrong_children_spec : {M : Type 1} → statement M
+wrong_children_spec =
     tie.close
     (tie.spec
-    count-children-requires
-    slice-read-if1
-    same_length
-    returns
-    wrong-branch-point-requires
-    same-length-2
-    returns-2)
+    count_children-requires
+    bounds-children-0
+    shape_of-children-then-children-ne1
+    returns-then-children-ne1
+    wrong_branch_point-requires
+    shape_of-children
+    returns)

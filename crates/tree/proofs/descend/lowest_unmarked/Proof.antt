@@ -15,57 +15,57 @@ use Rattle.tree.proofs.descend.lowest_unmarked.Tie as tie
 abbrev unmarked : List ℕ → ℕ → Bool
 unmarked marks v = eqb (get_or marks v 0) 0
 
-abbrev invariant-loop : tie.invariant-loop
-invariant-loop n marks v₀ v = first_with (unmarked marks) (range 1 (2 * n - 1)) ≡ first_with (unmarked marks) (range v (2 * n - v))
+abbrev invariant-loop-v : tie.invariant-loop-v
+invariant-loop-v n marks v₀ v = first_with (unmarked marks) (range 1 (2 * n - 1)) ≡ first_with (unmarked marks) (range v (2 * n - v))
 
-abbrev decreases-loop : tie.decreases-loop
-decreases-loop n marks v₀ v = 2 * n - v
+abbrev decreases-loop-v : tie.decreases-loop-v
+decreases-loop-v n marks v₀ v = 2 * n - v
 
-loop-holds : tie.Need-loop-init invariant-loop decreases-loop
-loop-holds c = refl
+loop-v-init : tie.Need-loop-v-init invariant-loop-v decreases-loop-v
+loop-v-init c = refl
 
-mul-loop : tie.Need-overflow-mul-loop invariant-loop decreases-loop
-mul-loop c = omega arith
+overflow_mul-n : tie.Need-overflow_mul-n invariant-loop-v decreases-loop-v
+overflow_mul-n c = omega arith
 
-mul-if1 : tie.Need-overflow-mul-if1 invariant-loop decreases-loop
-mul-if1 c = omega arith
+offset_bounds-marks-v : tie.Need-offset_bounds-marks-v invariant-loop-v decreases-loop-v
+offset_bounds-marks-v c = omega arith
 
-shared-slice-read-if1 : tie.Need-shared-slice-read-if1 invariant-loop decreases-loop
-shared-slice-read-if1 c = omega arith
+bounds-marks-v : tie.Need-bounds-marks-v invariant-loop-v decreases-loop-v
+bounds-marks-v c = omega arith
 
-returns : tie.Need-returns invariant-loop decreases-loop
+returns-then-marks-v-eq0 : tie.Need-returns-then-marks-v-eq0 invariant-loop-v decreases-loop-v
+returns-then-marks-v-eq0 c =
+    let w = c.loop-v in
+    sym (w.invariant ∙ search_found _ w.v _ (omega arith) (eq-eqb _ 0 c.if-marks-v-eq0.true))
+
+overflow_add-v : tie.Need-overflow_add-v invariant-loop-v decreases-loop-v
+overflow_add-v c = omega arith
+
+loop-v-smaller : tie.Need-loop-v-smaller invariant-loop-v decreases-loop-v
+loop-v-smaller c = omega arith
+
+loop-v-preserved : tie.Need-loop-v-preserved invariant-loop-v decreases-loop-v
+loop-v-preserved c =
+    let w = c.loop-v in
+    w.invariant ∙ search_on _ w.v _ (omega arith) (ne_eqb _ 0 c.if-marks-v-eq0.false)
+
+returns : tie.Need-returns invariant-loop-v decreases-loop-v
 returns c =
-    let w = c.before.before.before.loop in
-    sym (w.invariant ∙ search_found _ w.v _ (omega arith) (eq-eqb _ 0 c.if1.true))
-
-add-v : tie.Need-overflow-add-v invariant-loop decreases-loop
-add-v c = omega arith
-
-loop-less : tie.Need-loop-smaller invariant-loop decreases-loop
-loop-less c = omega arith
-
-loop-again : tie.Need-loop-preserved invariant-loop decreases-loop
-loop-again c =
-    let w = c.before.before.before.loop in
-    w.invariant ∙ search_on _ w.v _ (omega arith) (ne_eqb _ 0 c.if1.false)
-
-returns-2 : tie.Need-returns-2 invariant-loop decreases-loop
-returns-2 c =
-    let w = c.before.loop in
+    let w = c.loop-v in
     sym (w.invariant ∙ search_ended _ w.v _ (omega arith))
 
-pub lowest-unmarked-spec : {M : Type 1} → statement M
-lowest-unmarked-spec =
+pub lowest_unmarked_spec : {M : Type 1} → statement M
+lowest_unmarked_spec =
     tie.close
     (tie.spec
-    invariant-loop
-    decreases-loop
-    loop-holds
-    mul-loop
-    mul-if1
-    shared-slice-read-if1
-    returns
-    add-v
-    loop-less
-    loop-again
-    returns-2)
+    invariant-loop-v
+    decreases-loop-v
+    loop-v-init
+    overflow_mul-n
+    offset_bounds-marks-v
+    bounds-marks-v
+    returns-then-marks-v-eq0
+    overflow_add-v
+    loop-v-smaller
+    loop-v-preserved
+    returns)

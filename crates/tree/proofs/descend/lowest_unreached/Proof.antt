@@ -9,83 +9,83 @@ use borrow.Author.Rules.{rules}
 use Rattle.tree.proofs.descend.lowest_unreached.Statement.{statement}
 use Rattle.tree.proofs.descend.lowest_unreached.Tie as tie
 
-link-children-requires : tie.Need-link-children-requires
-link-children-requires c κs = search rules
+link_children-requires : tie.Need-link_children-requires
+link_children-requires c κs = search rules
 
-descend-requires : tie.Need-descend-requires
-descend-requires c κs = ((c.before.before.before.before.before.before.before.before.before.before.before.before.before.before.args.parents.now, c.before.before.before.before.before.before.before.link-children.ensures), search rules)
+descend-end-requires : tie.Need-descend-end-requires
+descend-end-requires c κs = ((c.args.parents.now, c.link_children.ensures), search rules)
 
-mul-if1 : tie.Need-overflow-mul-if1
-mul-if1 c = search rules
+overflow_mul-n : tie.Need-overflow_mul-n
+overflow_mul-n c = search rules
 
-sub-if1 : tie.Need-overflow-sub-if1
-sub-if1 c = search rules
+overflow_sub-n : tie.Need-overflow_sub-n
+overflow_sub-n c = search rules
 
-same_length : tie.Need-same-length
-same_length c = search rules
+shape_of-first-then-end-n : tie.Need-shape_of-first-then-end-n
+shape_of-first-then-end-n c = search rules
 
-same-length-2 : tie.Need-same-length-2
-same-length-2 c = search rules
+shape_of-second-then-end-n : tie.Need-shape_of-second-then-end-n
+shape_of-second-then-end-n c = search rules
 
-same-length-3 : tie.Need-same-length-3
-same-length-3 c = search rules
+shape_of-queue-then-end-n : tie.Need-shape_of-queue-then-end-n
+shape_of-queue-then-end-n c = search rules
 
-returns : tie.Need-returns
-returns c =
-    let s = c.before.before.before.before.before.before.before.before.before.before.before.before.before.before.before.before.before.before in
-    let d = c.before.before.before.descend in
-    let D = d.ensures s.args.parents.now c.before.before.before.before.before.before.before.before.before.before.before.link-children.ensures in
+returns-then-end-n : tie.Need-returns-then-end-n
+returns-then-end-n c =
+    let s = c in
+    let d = c.descend-end in
+    let D = d.ensures s.args.parents.now c.link_children.ensures in
     let in_tree : (u : ℕ) → UnderRoot s.args.n u → get_or s.args.parents.now u 0 < 2 * s.args.n = λ u h. s.requires.0.0.inside u h.0 h.1 in
-    let full = c.if1.true in
+    let full = c.if-end-n.true in
     (sym (descent_full D in_tree full), λ e. descent_order D in_tree full (omega (arith, d.auto, s.requires.1)))
 
-mark-queued-requires : tie.Need-mark-queued-requires
-mark-queued-requires c κs =
-    let s = c.before.before.before.before.before.before.before.before.before.before.before.before.before.before.before.before.before.before.before.before in
-    let d = c.before.before.before.before.before.descend in
-    let D = d.ensures s.args.parents.now c.before.before.before.before.before.before.before.before.before.before.before.before.before.link-children.ensures in
+mark_queued-requires : tie.Need-mark_queued-requires
+mark_queued-requires c κs =
+    let s = c in
+    let d = c.descend-end in
+    let D = d.ensures s.args.parents.now c.link_children.ensures in
     let in_tree : (u : ℕ) → UnderRoot s.args.n u → get_or s.args.parents.now u 0 < 2 * s.args.n = λ u h. s.requires.0.0.inside u h.0 h.1 in
     (omega (arith, descent_few D, d.auto, s.requires.1), search rules, λ j h. (D.inside j h).1)
 
-lowest-unmarked-requires : tie.Need-lowest-unmarked-requires
-lowest-unmarked-requires c κs = search rules
+lowest_unmarked-requires : tie.Need-lowest_unmarked-requires
+lowest_unmarked-requires c κs = search rules
 
-same-length-4 : tie.Need-same-length-4
-same-length-4 c = search rules
+shape_of-first : tie.Need-shape_of-first
+shape_of-first c = search rules
 
-same-length-5 : tie.Need-same-length-5
-same-length-5 c = search rules
+shape_of-second : tie.Need-shape_of-second
+shape_of-second c = search rules
 
-same-length-6 : tie.Need-same-length-6
-same-length-6 c = search rules
+shape_of-queue : tie.Need-shape_of-queue
+shape_of-queue c = search rules
 
-returns-2 : tie.Need-returns-2
-returns-2 c =
-    let s = c.before.before.before.before.before.before.before.before.before.before.before.before.before.before.before.before.before.before.before.before.before.before.before.before.before in
-    let d = c.before.before.before.before.before.before.before.before.before.before.descend in
-    let D = d.ensures s.args.parents.now c.before.before.before.before.before.before.before.before.before.before.before.before.before.before.before.before.before.before.link-children.ensures in
+returns : tie.Need-returns
+returns c =
+    let s = c in
+    let d = c.descend-end in
+    let D = d.ensures s.args.parents.now c.link_children.ensures in
     let in_tree : (u : ℕ) → UnderRoot s.args.n u → get_or s.args.parents.now u 0 < 2 * s.args.n = λ u h. s.requires.0.0.inside u h.0 h.1 in
-    let M = c.before.before.before.before.mark-queued.ensures in
-    let e = c.lowest-unmarked.ensures in (
+    let M = c.mark_queued.ensures in
+    let e = c.lowest_unmarked.ensures in (
       e ∙ unmarked_is D in_tree M,
-      λ z. absurd (c.before.before.before.before.before.before.before.if1.false (marked_full D in_tree M (sym e ∙ z))),
+      λ z. absurd (c.if-end-n.false (marked_full D in_tree M (sym e ∙ z))),
     )
 
-pub lowest-unreached-spec : {M : Type 1} → statement M
-lowest-unreached-spec =
+pub lowest_unreached_spec : {M : Type 1} → statement M
+lowest_unreached_spec =
     tie.close
     (tie.spec
-    link-children-requires
-    descend-requires
-    mul-if1
-    sub-if1
-    same_length
-    same-length-2
-    same-length-3
-    returns
-    mark-queued-requires
-    lowest-unmarked-requires
-    same-length-4
-    same-length-5
-    same-length-6
-    returns-2)
+    link_children-requires
+    descend-end-requires
+    overflow_mul-n
+    overflow_sub-n
+    shape_of-first-then-end-n
+    shape_of-second-then-end-n
+    shape_of-queue-then-end-n
+    returns-then-end-n
+    mark_queued-requires
+    lowest_unmarked-requires
+    shape_of-first
+    shape_of-second
+    shape_of-queue
+    returns)

@@ -9,77 +9,77 @@ use Rattle.tree.specs.Inner.Descent.{MarksQueued}
 use Rattle.tree.proofs.descend.mark_queued.Statement.{statement}
 use Rattle.tree.proofs.descend.mark_queued.Tie as tie
 
-abbrev invariant-loop : tie.invariant-loop
-invariant-loop n queue end marks₀ j₀ marks j =
+abbrev invariant-loop-j : tie.invariant-loop-j
+invariant-loop-j n queue end marks₀ j₀ marks j =
     (length marks ≡ length marks₀) × (j ≤ end) × MarksQueued n queue j marks
 
-abbrev decreases-loop : tie.decreases-loop
-decreases-loop n queue end marks₀ j₀ marks j = end - j
+abbrev decreases-loop-j : tie.decreases-loop-j
+decreases-loop-j n queue end marks₀ j₀ marks j = end - j
 
-mul-clear : tie.Need-overflow-mul-clear invariant-loop decreases-loop
-mul-clear c = search rules
+overflow_mul-n : tie.Need-overflow_mul-n invariant-loop-j decreases-loop-j
+overflow_mul-n c = search rules
 
-clear-requires : tie.Need-clear-requires invariant-loop decreases-loop
+clear-requires : tie.Need-clear-requires invariant-loop-j decreases-loop-j
 clear-requires c κs = search rules
 
-loop-holds : tie.Need-loop-init invariant-loop decreases-loop
-loop-holds c =
-    let k = c.before.before.clear in
+loop-j-init : tie.Need-loop-j-init invariant-loop-j decreases-loop-j
+loop-j-init c =
+    let k = c.clear in
     (refl, omega arith, marks_none _ _ _ k.ensures)
 
-mul-v : tie.Need-overflow-mul-v invariant-loop decreases-loop
-mul-v c = search rules
+offset_bounds-queue-j : tie.Need-offset_bounds-queue-j invariant-loop-j decreases-loop-j
+offset_bounds-queue-j c = search rules
 
-shared-slice-read-v : tie.Need-shared-slice-read-v invariant-loop decreases-loop
-shared-slice-read-v c = search rules
+bounds-queue-j : tie.Need-bounds-queue-j invariant-loop-j decreases-loop-j
+bounds-queue-j c = search rules
 
-mul-marks : tie.Need-overflow-mul-marks invariant-loop decreases-loop
-mul-marks c =
-    let w = c.before.before.loop in
-    omega (arith, c.before.before.before.before.before.before.before.before.before.requires.2 w.j (omega arith))
+offset_bounds-marks-v : tie.Need-offset_bounds-marks-v invariant-loop-j decreases-loop-j
+offset_bounds-marks-v c =
+    let w = c.loop-j in
+    omega (arith, c.requires.2 w.j (omega arith))
 
-slice-write-marks : tie.Need-slice-write-marks invariant-loop decreases-loop
-slice-write-marks c =
-    let w = c.before.before.loop in
-    omega (arith, c.before.before.before.before.before.before.before.before.before.requires.2 w.j (omega arith))
+bounds-marks-v : tie.Need-bounds-marks-v invariant-loop-j decreases-loop-j
+bounds-marks-v c =
+    let w = c.loop-j in
+    omega (arith, c.requires.2 w.j (omega arith))
 
-add-j : tie.Need-overflow-add-j invariant-loop decreases-loop
-add-j c = search rules
+overflow_add-j : tie.Need-overflow_add-j invariant-loop-j decreases-loop-j
+overflow_add-j c = search rules
 
-loop-less : tie.Need-loop-smaller invariant-loop decreases-loop
-loop-less c = search rules
+loop-j-smaller : tie.Need-loop-j-smaller invariant-loop-j decreases-loop-j
+loop-j-smaller c = search rules
 
-loop-again : tie.Need-loop-preserved invariant-loop decreases-loop
-loop-again c =
-    let w = c.before.before.loop in
-    let s = c.before.before.before.before.before.before.before.before.before in
+loop-j-preserved : tie.Need-loop-j-preserved invariant-loop-j decreases-loop-j
+loop-j-preserved c =
+    let w = c.loop-j in
+    let s = c in
     (simp length-set w.invariant.0, omega arith, marks_more s.args.n s.args.queue.now w.marks w.j (omega (arith, s.requires.2 w.j (omega arith))) w.invariant.2)
 
-same_length : tie.Need-same-length invariant-loop decreases-loop
-same_length c = search rules
+shape_of-marks : tie.Need-shape_of-marks invariant-loop-j decreases-loop-j
+shape_of-marks c = search rules
 
-returns : tie.Need-returns invariant-loop decreases-loop
+returns : tie.Need-returns invariant-loop-j decreases-loop-j
 returns c =
-    let w = c.before.loop in
-    let s = c.before.before.before.before.before.before.before.before in
+    let w = c.loop-j in
+    let s = c in
     let e : w.j ≡ s.args.end = omega arith in
     subst (λ (k : ℕ). MarksQueued s.args.n s.args.queue.now k w.marks) e w.invariant.2
 
-pub mark-queued-spec : {M : Type 1} → statement M
-mark-queued-spec =
+pub mark_queued_spec : {M : Type 1} → statement M
+mark_queued_spec =
     tie.close
     (tie.spec
-    invariant-loop
-    decreases-loop
-    mul-clear
+    invariant-loop-j
+    decreases-loop-j
+    overflow_mul-n
     clear-requires
-    loop-holds
-    mul-v
-    shared-slice-read-v
-    mul-marks
-    slice-write-marks
-    add-j
-    loop-less
-    loop-again
-    same_length
+    loop-j-init
+    offset_bounds-queue-j
+    bounds-queue-j
+    offset_bounds-marks-v
+    bounds-marks-v
+    overflow_add-j
+    loop-j-smaller
+    loop-j-preserved
+    shape_of-marks
     returns)

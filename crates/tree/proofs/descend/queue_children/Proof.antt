@@ -6,59 +6,59 @@ use borrow.Author.Rules.{rules}
 use Rattle.tree.proofs.descend.queue_children.Statement.{statement}
 use Rattle.tree.proofs.descend.queue_children.Tie as tie
 
+returns-then-v-n : tie.Need-returns-then-v-n
+returns-then-v-n c = (λ h. (refl, refl), λ h. absurd (omega (arith, c.if-v-n.true)))
+
+offset_bounds-first-v : tie.Need-offset_bounds-first-v
+offset_bounds-first-v c = omega (arith, c.requires c.if-v-n.false)
+
+bounds-first-v : tie.Need-bounds-first-v
+bounds-first-v c = omega (arith, c.requires c.if-v-n.false)
+
+offset_bounds-queue-end : tie.Need-offset_bounds-queue-end
+offset_bounds-queue-end c = omega (arith, c.requires c.if-v-n.false)
+
+bounds-queue-end : tie.Need-bounds-queue-end
+bounds-queue-end c = omega (arith, c.requires c.if-v-n.false)
+
+offset_bounds-second-v : tie.Need-offset_bounds-second-v
+offset_bounds-second-v c = omega (arith, c.requires c.if-v-n.false)
+
+bounds-second-v : tie.Need-bounds-second-v
+bounds-second-v c = omega (arith, c.requires c.if-v-n.false)
+
+overflow_add-queue : tie.Need-overflow_add-queue
+overflow_add-queue c = omega (arith, c.requires c.if-v-n.false)
+
+offset_bounds-queue-end-2 : tie.Need-offset_bounds-queue-end-2
+offset_bounds-queue-end-2 c = omega (arith, c.requires c.if-v-n.false)
+
+bounds-queue-end-2 : tie.Need-bounds-queue-end-2
+bounds-queue-end-2 c = simp length-set (c.requires c.if-v-n.false).2
+
+overflow_add-result : tie.Need-overflow_add-result
+overflow_add-result c = omega (arith, c.requires c.if-v-n.false)
+
+shape_of-queue : tie.Need-shape_of-queue
+shape_of-queue c = search rules
+
 returns : tie.Need-returns
-returns c = (λ h. (refl, refl), λ h. absurd (omega (arith, c.if1.true)))
+returns c = (λ h. absurd (omega (arith, c.if-v-n.false)), λ h. (refl, refl))
 
-mul-queue : tie.Need-overflow-mul-queue
-mul-queue c = omega (arith, c.before.requires c.if1.false)
-
-shared-slice-read-queue : tie.Need-shared-slice-read-queue
-shared-slice-read-queue c = omega (arith, c.before.before.requires c.before.if1.false)
-
-mul-queue-2 : tie.Need-overflow-mul-queue-2
-mul-queue-2 c = omega (arith, c.before.before.requires c.before.if1.false)
-
-slice-write-queue : tie.Need-slice-write-queue
-slice-write-queue c = omega (arith, c.before.before.requires c.before.if1.false)
-
-mul-queue-3 : tie.Need-overflow-mul-queue-3
-mul-queue-3 c = omega (arith, c.before.before.requires c.before.if1.false)
-
-shared-slice-read-queue-2 : tie.Need-shared-slice-read-queue-2
-shared-slice-read-queue-2 c = omega (arith, c.before.before.before.requires c.before.before.if1.false)
-
-add-queue : tie.Need-overflow-add-queue
-add-queue c = omega (arith, c.before.before.before.requires c.before.before.if1.false)
-
-mul-queue-4 : tie.Need-overflow-mul-queue-4
-mul-queue-4 c = omega (arith, c.before.before.before.requires c.before.before.if1.false)
-
-slice-write-queue-2 : tie.Need-slice-write-queue-2
-slice-write-queue-2 c = simp length-set (c.before.before.before.requires c.before.before.if1.false).2
-
-add-result : tie.Need-overflow-add-result
-add-result c = omega (arith, c.before.before.before.requires c.before.before.if1.false)
-
-same_length : tie.Need-same-length
-same_length c = search rules
-
-returns-2 : tie.Need-returns-2
-returns-2 c = (λ h. absurd (omega (arith, c.before.before.if1.false)), λ h. (refl, refl))
-
-pub queue-children-spec : {M : Type 1} → statement M
-queue-children-spec =
+pub queue_children_spec : {M : Type 1} → statement M
+queue_children_spec =
     tie.close
     (tie.spec
-    returns
-    mul-queue
-    shared-slice-read-queue
-    mul-queue-2
-    slice-write-queue
-    mul-queue-3
-    shared-slice-read-queue-2
-    add-queue
-    mul-queue-4
-    slice-write-queue-2
-    add-result
-    same_length
-    returns-2)
+    returns-then-v-n
+    offset_bounds-first-v
+    bounds-first-v
+    offset_bounds-queue-end
+    bounds-queue-end
+    offset_bounds-second-v
+    bounds-second-v
+    overflow_add-queue
+    offset_bounds-queue-end-2
+    bounds-queue-end-2
+    overflow_add-result
+    shape_of-queue
+    returns)

@@ -8,11 +8,11 @@ use Rattle.tree.proofs.measure.branch_cost.Tie as tie
 of-requires : tie.Need-of-requires
 of-requires c κs = search rules
 
-returns : tie.Need-returns
-returns c = branch_point_cost c.before.before.args.h c.before.before.requires _ _ _ c.if1.true refl
+returns-then-n-v : tie.Need-returns-then-n-v
+returns-then-n-v c = branch_point_cost c.args.h c.requires _ _ _ c.if-n-v.true refl
 
-returns-2 : tie.Need-returns-2
-returns-2 c = sink_cost c.before.before.before.args.h c.before.before.before.requires _ _ _ c.before.if1.false c.of.ensures
+returns-else-n-v : tie.Need-returns-else-n-v
+returns-else-n-v c = sink_cost c.args.h c.requires _ _ _ c.if-n-v.false c.of.ensures
 
-pub branch-cost-spec : {M : Type 1} → statement M
-branch-cost-spec = tie.close (tie.spec of-requires returns returns-2)
+pub branch_cost_spec : {M : Type 1} → statement M
+branch_cost_spec = tie.close (tie.spec of-requires returns-then-n-v returns-else-n-v)

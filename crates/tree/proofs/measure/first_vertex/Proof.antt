@@ -9,20 +9,20 @@ use Rattle.tree.proofs.Laws.Measures.MeasuredArrays.{tally_same}
 use Rattle.tree.proofs.measure.first_vertex.Statement.{statement}
 use Rattle.tree.proofs.measure.first_vertex.Tie as tie
 
-shared-slice-copy-out-of : tie.Need-shared-slice-copy-out-of
-shared-slice-copy-out-of c = search rules
+bounds-slacks-1 : tie.Need-bounds-slacks-1
+bounds-slacks-1 c = search rules
 
 of-requires : tie.Need-of-requires
 of-requires c κs = search rules
 
-edge-length-requires : tie.Need-edge-length-requires
-edge-length-requires c κs = search rules
+edge_length-requires : tie.Need-edge_length-requires
+edge_length-requires c κs = search rules
 
 returns : tie.Need-returns
 returns c =
-    let a = c.before.before.before.before.args in
-    tally_same _ _ (c.before.of.ensures ∙ to_z-of_z (fit (get_or a.slacks.now 1 (pos 0)) c.before.before.of-arg.given)) c.edge-length.ensures
+    let a = c.args in
+    tally_same _ _ (c.of.ensures ∙ to_z-of_z (fit (get_or a.slacks.now 1 (pos 0)) c.of-arg-1.given)) c.edge_length.ensures
 
-pub first-vertex-spec : {M : Type 1} → statement M
-first-vertex-spec =
-    tie.close (tie.spec shared-slice-copy-out-of of-requires edge-length-requires returns)
+pub first_vertex_spec : {M : Type 1} → statement M
+first_vertex_spec =
+    tie.close (tie.spec bounds-slacks-1 of-requires edge_length-requires returns)

@@ -12,11 +12,11 @@ use Rattle.tree.proofs.measure.measure_tree.Tie as tie
 spend-requires : tie.Need-spend-requires
 spend-requires c κs = search rules
 
-sink-slacks-requires : tie.Need-sink-slacks-requires
-sink-slacks-requires c κs =
-    let s = c.before.before.before.before.before.before in
+sink_slacks-requires : tie.Need-sink_slacks-requires
+sink_slacks-requires c κs =
+    let s = c in
     let a = s.args in
-    let d = c.before.before.spend in (
+    let d = c.spend in (
       s.requires.0.required_long,
       omega (arith, d.auto, s.requires.1.parents_in_lem.some),
       λ v g l. (
@@ -27,23 +27,23 @@ sink-slacks-requires c κs =
 
 measure-requires : tie.Need-measure-requires
 measure-requires c κs =
-    let s = c.before.before.before.before.before.before.before.before.before in
-    (s.requires.1, omega (arith, c.before.before.sink-slacks.auto, c.before.before.before.before.before.spend.auto, s.requires.1.parents_in_lem.some))
+    let s = c in
+    (s.requires.1, omega (arith, c.sink_slacks.auto, c.spend.auto, s.requires.1.parents_in_lem.some))
 
-same_length : tie.Need-same-length
-same_length c = search rules
+shape_of-slacks : tie.Need-shape_of-slacks
+shape_of-slacks c = search rules
 
 returns : tie.Need-returns
 returns c =
-    let s = c.before.before.before.before.before.before.before.before.before.before in
+    let s = c in
     let a = s.args in
     let e = c.measure.ensures in
-    let d = c.before.before.before.before.before.before.spend.ensures in (
-      e.0 ∙ worst_is (net_of a.h a.n a.xs.now a.ys.now a.required.now) (tree_of a.n a.parents.now a.xs.now a.ys.now) a.n c.before.before.before.sink-slacks.new.1.1.0 (size_is a.h a.n a.xs.now a.ys.now a.required.now)
-          (λ v g l. c.before.before.before.sink-slacks.ensures v g l ∙ slack_is a.h a.n a.parents.now a.xs.now a.ys.now s.requires.1 a.required.now v _ g l (d v g (omega arith))),
+    let d = c.spend.ensures in (
+      e.0 ∙ worst_is (net_of a.h a.n a.xs.now a.ys.now a.required.now) (tree_of a.n a.parents.now a.xs.now a.ys.now) a.n c.sink_slacks.new.slacks (size_is a.h a.n a.xs.now a.ys.now a.required.now)
+          (λ v g l. c.sink_slacks.ensures v g l ∙ slack_is a.h a.n a.parents.now a.xs.now a.ys.now s.requires.1 a.required.now v _ g l (d v g (omega arith))),
       e.1 ∙ wire_is a.n a.parents.now a.xs.now a.ys.now s.requires.1 a.h a.required.now,
     )
 
-pub measure-tree-spec : {M : Type 1} → statement M
-measure-tree-spec =
-    tie.close (tie.spec spend-requires sink-slacks-requires measure-requires same_length returns)
+pub measure_tree_spec : {M : Type 1} → statement M
+measure_tree_spec =
+    tie.close (tie.spec spend-requires sink_slacks-requires measure-requires shape_of-slacks returns)

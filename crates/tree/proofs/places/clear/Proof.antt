@@ -7,49 +7,49 @@ use Rattle.tree.proofs.Laws.Lists.Filling.{filled_more}
 use Rattle.tree.proofs.places.clear.Statement.{statement}
 use Rattle.tree.proofs.places.clear.Tie as tie
 
-abbrev invariant-loop : tie.invariant-loop
-invariant-loop places₀ m u₀ places u = (length places ≡ length places₀) × ((k : ℕ) → k < u → get_or places k 0 ≡ 0)
+abbrev invariant-loop-u : tie.invariant-loop-u
+invariant-loop-u places₀ m u₀ places u = (length places ≡ length places₀) × ((k : ℕ) → k < u → get_or places k 0 ≡ 0)
 
-abbrev decreases-loop : tie.decreases-loop
-decreases-loop places₀ m u₀ places u = m - u
+abbrev decreases-loop-u : tie.decreases-loop-u
+decreases-loop-u places₀ m u₀ places u = m - u
 
-loop-holds : tie.Need-loop-init invariant-loop decreases-loop
-loop-holds c = (refl, λ k h. omega arith)
+loop-u-init : tie.Need-loop-u-init invariant-loop-u decreases-loop-u
+loop-u-init c = (refl, λ k h. omega arith)
 
-mul-places : tie.Need-overflow-mul-places invariant-loop decreases-loop
-mul-places c = omega arith
+offset_bounds-places-u : tie.Need-offset_bounds-places-u invariant-loop-u decreases-loop-u
+offset_bounds-places-u c = omega arith
 
-slice-write-places : tie.Need-slice-write-places invariant-loop decreases-loop
-slice-write-places c = omega arith
+bounds-places-u : tie.Need-bounds-places-u invariant-loop-u decreases-loop-u
+bounds-places-u c = omega arith
 
-add-u : tie.Need-overflow-add-u invariant-loop decreases-loop
-add-u c = omega arith
+overflow_add-u : tie.Need-overflow_add-u invariant-loop-u decreases-loop-u
+overflow_add-u c = omega arith
 
-loop-less : tie.Need-loop-smaller invariant-loop decreases-loop
-loop-less c = omega arith
+loop-u-smaller : tie.Need-loop-u-smaller invariant-loop-u decreases-loop-u
+loop-u-smaller c = omega arith
 
-loop-again : tie.Need-loop-preserved invariant-loop decreases-loop
-loop-again c =
-    let w = c.before.loop in
+loop-u-preserved : tie.Need-loop-u-preserved invariant-loop-u decreases-loop-u
+loop-u-preserved c =
+    let w = c.loop-u in
     (length-set w.places w.u 0 ∙ w.invariant.0, λ k h. filled_more 0 (λ v. 0) 0 w.places w.u 0 (omega arith) refl (λ v from below. w.invariant.1 v below) k (omega arith) h)
 
-same_length : tie.Need-same-length invariant-loop decreases-loop
-same_length c = omega arith
+shape_of-places : tie.Need-shape_of-places invariant-loop-u decreases-loop-u
+shape_of-places c = omega arith
 
-returns : tie.Need-returns invariant-loop decreases-loop
-returns c u h = c.before.loop.invariant.1 u (omega arith)
+returns : tie.Need-returns invariant-loop-u decreases-loop-u
+returns c u h = c.loop-u.invariant.1 u (omega arith)
 
 pub clear_spec : {M : Type 1} → statement M
 clear_spec =
     tie.close
     (tie.spec
-    invariant-loop
-    decreases-loop
-    loop-holds
-    mul-places
-    slice-write-places
-    add-u
-    loop-less
-    loop-again
-    same_length
+    invariant-loop-u
+    decreases-loop-u
+    loop-u-init
+    offset_bounds-places-u
+    bounds-places-u
+    overflow_add-u
+    loop-u-smaller
+    loop-u-preserved
+    shape_of-places
     returns)

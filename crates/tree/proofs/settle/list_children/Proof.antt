@@ -9,81 +9,81 @@ use Rattle.tree.proofs.Laws.Settling.Children.{Listed, listed_none, listed_step,
 use Rattle.tree.proofs.settle.list_children.Statement.{statement}
 use Rattle.tree.proofs.settle.list_children.Tie as tie
 
-abbrev invariant-loop : tie.invariant-loop
-invariant-loop n parents kids₀ v₀ kids v =
+abbrev invariant-loop-v : tie.invariant-loop-v
+invariant-loop-v n parents kids₀ v₀ kids v =
     (1 ≤ v) × (v ≤ 2 * n) × (length kids ≡ length kids₀) × Listed (parent_of (parents_of n parents)) (2 * n) (v - 1) kids
 
-abbrev decreases-loop : tie.decreases-loop
-decreases-loop n parents kids₀ v₀ kids v = 2 * n - v
+abbrev decreases-loop-v : tie.decreases-loop-v
+decreases-loop-v n parents kids₀ v₀ kids v = 2 * n - v
 
-mul-clear : tie.Need-overflow-mul-clear invariant-loop decreases-loop
-mul-clear c = omega arith
+overflow_mul-n : tie.Need-overflow_mul-n invariant-loop-v decreases-loop-v
+overflow_mul-n c = omega arith
 
-clear-requires : tie.Need-clear-requires invariant-loop decreases-loop
+clear-requires : tie.Need-clear-requires invariant-loop-v decreases-loop-v
 clear-requires c κs = omega arith
 
-loop-holds : tie.Need-loop-init invariant-loop decreases-loop
-loop-holds c =
-    let a = c.before.before.before.before.before.before.args in
-    let k = c.before.before.clear in
-    (omega arith, omega arith, refl, listed_none (parent_of (parents_of a.n a.parents.now)) (2 * a.n) k.new.0 (λ u h. k.ensures u (omega arith)))
+loop-v-init : tie.Need-loop-v-init invariant-loop-v decreases-loop-v
+loop-v-init c =
+    let a = c.args in
+    let k = c.clear in
+    (omega arith, omega arith, refl, listed_none (parent_of (parents_of a.n a.parents.now)) (2 * a.n) k.new.places (λ u h. k.ensures u (omega arith)))
 
-mul-loop : tie.Need-overflow-mul-loop invariant-loop decreases-loop
-mul-loop c = omega arith
+overflow_mul-n-in-loop-v : tie.Need-overflow_mul-n-in-loop-v invariant-loop-v decreases-loop-v
+overflow_mul-n-in-loop-v c = omega arith
 
-mul-p : tie.Need-overflow-mul-p invariant-loop decreases-loop
-mul-p c = omega arith
+offset_bounds-parents-v : tie.Need-offset_bounds-parents-v invariant-loop-v decreases-loop-v
+offset_bounds-parents-v c = omega arith
 
-shared-slice-read-p : tie.Need-shared-slice-read-p invariant-loop decreases-loop
-shared-slice-read-p c = omega arith
+bounds-parents-v : tie.Need-bounds-parents-v invariant-loop-v decreases-loop-v
+bounds-parents-v c = omega arith
 
-add-child-requires : tie.Need-add-child-requires invariant-loop decreases-loop
-add-child-requires c κs =
-    let v = c.before.before.before.loop.v in
-    let p = c.before.before.before.before.before.before.before.before.before.before.requires.0 in
+add_child-requires : tie.Need-add_child-requires invariant-loop-v decreases-loop-v
+add_child-requires c κs =
+    let v = c.loop-v.v in
+    let p = c.requires.0 in
     omega (arith, p.inside v (omega arith) (omega arith))
 
-add-v : tie.Need-overflow-add-v invariant-loop decreases-loop
-add-v c = omega arith
+overflow_add-v : tie.Need-overflow_add-v invariant-loop-v decreases-loop-v
+overflow_add-v c = omega arith
 
-loop-less : tie.Need-loop-smaller invariant-loop decreases-loop
-loop-less c = omega arith
+loop-v-smaller : tie.Need-loop-v-smaller invariant-loop-v decreases-loop-v
+loop-v-smaller c = omega arith
 
-loop-again : tie.Need-loop-preserved invariant-loop decreases-loop
-loop-again c =
-    let l = c.before.before.before.before.before.before.loop in
-    let s = c.before.before.before.before.before.before.before.before.before.before.before.before.before in
-    let k = c.before.before.add-child in (
+loop-v-preserved : tie.Need-loop-v-preserved invariant-loop-v decreases-loop-v
+loop-v-preserved c =
+    let l = c.loop-v in
+    let s = c in
+    let k = c.add_child in (
       omega arith,
       omega arith,
       omega arith,
-      listed_step s.args.n s.args.parents.now s.requires.1 l.v l.kids k.new.0 (omega arith) (omega arith) (omega arith) k.ensures l.invariant.3,
+      listed_step s.args.n s.args.parents.now s.requires.1 l.v l.kids k.new.kids (omega arith) (omega arith) (omega arith) k.ensures l.invariant.3,
     )
 
-same_length : tie.Need-same-length invariant-loop decreases-loop
-same_length c = omega arith
+shape_of-kids : tie.Need-shape_of-kids invariant-loop-v decreases-loop-v
+shape_of-kids c = omega arith
 
-returns : tie.Need-returns invariant-loop decreases-loop
+returns : tie.Need-returns invariant-loop-v decreases-loop-v
 returns c =
-    let l = c.before.loop in
-    let s = c.before.before.before.before.before.before.before.before in
+    let l = c.loop-v in
+    let s = c in
     listed_all s.args.n s.args.parents.now s.requires.1 l.v l.kids (omega arith) l.invariant.3
 
-pub list-children-spec : {M : Type 1} → statement M
-list-children-spec =
+pub list_children_spec : {M : Type 1} → statement M
+list_children_spec =
     tie.close
     (tie.spec
-    invariant-loop
-    decreases-loop
-    mul-clear
+    invariant-loop-v
+    decreases-loop-v
+    overflow_mul-n
     clear-requires
-    loop-holds
-    mul-loop
-    mul-p
-    shared-slice-read-p
-    add-child-requires
-    add-v
-    loop-less
-    loop-again
-    same_length
+    loop-v-init
+    overflow_mul-n-in-loop-v
+    offset_bounds-parents-v
+    bounds-parents-v
+    add_child-requires
+    overflow_add-v
+    loop-v-smaller
+    loop-v-preserved
+    shape_of-kids
     returns)

@@ -9,90 +9,90 @@ use borrow.Author.Rules.{rules}
 use Rattle.tree.proofs.settle.settle_one.Statement.{statement}
 use Rattle.tree.proofs.settle.settle_one.Tie as tie
 
-point-requires : tie.Need-point-requires
-point-requires c κs = search rules
+point-root-requires : tie.Need-point-root-requires
+point-root-requires c κs = search rules
 
-mul-point : tie.Need-overflow-mul-point
-mul-point c = search rules
+overflow_mul-b : tie.Need-overflow_mul-b
+overflow_mul-b c = search rules
 
-mul-point-2 : tie.Need-overflow-mul-point-2
-mul-point-2 c = search rules
+offset_bounds-kids-b : tie.Need-offset_bounds-kids-b
+offset_bounds-kids-b c = search rules
 
-shared-slice-read-point : tie.Need-shared-slice-read-point
-shared-slice-read-point c = search rules
+bounds-kids-b : tie.Need-bounds-kids-b
+bounds-kids-b c = search rules
 
-point-requires-2 : tie.Need-point-requires-2
-point-requires-2 c κs = search rules
+point-left-requires : tie.Need-point-left-requires
+point-left-requires c κs = search rules
 
-mul-point-3 : tie.Need-overflow-mul-point-3
-mul-point-3 c = search rules
+overflow_mul-b-2 : tie.Need-overflow_mul-b-2
+overflow_mul-b-2 c = search rules
 
-add-point : tie.Need-overflow-add-point
-add-point c = search rules
+overflow_add-b : tie.Need-overflow_add-b
+overflow_add-b c = search rules
 
-mul-point-4 : tie.Need-overflow-mul-point-4
-mul-point-4 c = search rules
+offset_bounds-kids-b-2 : tie.Need-offset_bounds-kids-b-2
+offset_bounds-kids-b-2 c = search rules
 
-shared-slice-read-point-2 : tie.Need-shared-slice-read-point-2
-shared-slice-read-point-2 c = search rules
+bounds-kids-b-2 : tie.Need-bounds-kids-b-2
+bounds-kids-b-2 c = search rules
 
-point-requires-3 : tie.Need-point-requires-3
-point-requires-3 c κs = search rules
+point-right-requires : tie.Need-point-right-requires
+point-right-requires c κs = search rules
 
-median-point-requires : tie.Need-median-point-requires
-median-point-requires c κs = search rules
+median_point-middle-requires : tie.Need-median_point-middle-requires
+median_point-middle-requires c κs = search rules
 
-mul-x : tie.Need-overflow-mul-x
-mul-x c = search rules
+offset_bounds-xs-b : tie.Need-offset_bounds-xs-b
+offset_bounds-xs-b c = search rules
 
-slice-set-from-x : tie.Need-slice-set-from-x
-slice-set-from-x c = search rules
+bounds-xs-b : tie.Need-bounds-xs-b
+bounds-xs-b c = search rules
 
-mul-y : tie.Need-overflow-mul-y
-mul-y c = search rules
+offset_bounds-ys-b : tie.Need-offset_bounds-ys-b
+offset_bounds-ys-b c = search rules
 
-slice-set-from-y : tie.Need-slice-set-from-y
-slice-set-from-y c = search rules
+bounds-ys-b : tie.Need-bounds-ys-b
+bounds-ys-b c = search rules
 
-same_length : tie.Need-same-length
-same_length c = search rules
+shape_of-xs : tie.Need-shape_of-xs
+shape_of-xs c = search rules
 
-same-length-2 : tie.Need-same-length-2
-same-length-2 c = search rules
+shape_of-ys : tie.Need-shape_of-ys
+shape_of-ys c = search rules
 
 returns : tie.Need-returns
 returns c =
-    let m = c.before.before.median-point in
-    let c₃ = c.before.before.before in
-    let c₂ = c₃.before.before.before.before in
-    let c₁ = c₂.before.before.before.before in
-    let a = c₁.before.before.before.before.args in
-    let e = median_at_lem a.xs.now a.ys.now a.kids.now a.b _ _ _ m.result m.ensures c₁.point.ensures c₂.point2.ensures c₃.point3.ensures in
-    let x = to_z-of_z (fit m.result.x c.before.struct_told.given.0.1) in
-    let y = to_z-of_z (fit m.result.y c.struct-told2.given.1.0.1) in (
+    let m = c.median_point-middle in
+    let c₃ = c in
+    let c₂ = c₃ in
+    let c₁ = c₂ in
+    let a = c₁.args in
+    let e = median_at_lem a.xs.now a.ys.now a.kids.now a.b _ _ _ m.result m.ensures c₁.point-root.ensures c₂.point-left.ensures c₃.point-right.ensures in
+    let x = to_z-of_z (fit m.result.x c.struct_told-1.given.0.1) in
+    let y = to_z-of_z (fit m.result.y c.struct_told-2-1.given.1.0.1) in (
       ap (set a.xs.now a.b) x ∙ ap (λ (q : Point). set a.xs.now a.b q.x) e,
       ap (set a.ys.now a.b) y ∙ ap (λ (q : Point). set a.ys.now a.b q.y) e,
     )
 
-pub settle-one-spec : {M : Type 1} → statement M
-settle-one-spec =
+pub settle_one_spec : {M : Type 1} → statement M
+settle_one_spec =
     tie.close
     (tie.spec
-    point-requires
-    mul-point
-    mul-point-2
-    shared-slice-read-point
-    point-requires-2
-    mul-point-3
-    add-point
-    mul-point-4
-    shared-slice-read-point-2
-    point-requires-3
-    median-point-requires
-    mul-x
-    slice-set-from-x
-    mul-y
-    slice-set-from-y
-    same_length
-    same-length-2
+    point-root-requires
+    overflow_mul-b
+    offset_bounds-kids-b
+    bounds-kids-b
+    point-left-requires
+    overflow_mul-b-2
+    overflow_add-b
+    offset_bounds-kids-b-2
+    bounds-kids-b-2
+    point-right-requires
+    median_point-middle-requires
+    offset_bounds-xs-b
+    bounds-xs-b
+    offset_bounds-ys-b
+    bounds-ys-b
+    shape_of-xs
+    shape_of-ys
     returns)

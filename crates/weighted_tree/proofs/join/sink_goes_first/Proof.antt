@@ -14,58 +14,58 @@ use borrow.Author.Rules.{rules}
 use Rattle.weighted_tree.proofs.join.sink_goes_first.Statement.{statement}
 use Rattle.weighted_tree.proofs.join.sink_goes_first.Tie as tie
 
+returns-then-i-n : tie.Need-returns-then-i-n
+returns-then-i-n c = (omega arith, λ l. absurd (omega arith))
+
+returns-then-j-k : tie.Need-returns-then-j-k
+returns-then-j-k c = (omega arith, λ l. absurd (omega arith))
+
+offset_bounds-order-i : tie.Need-offset_bounds-order-i
+offset_bounds-order-i c = search rules
+
+bounds-order-i : tie.Need-bounds-order-i
+bounds-order-i c = search rules
+
+offset_bounds-weights-s : tie.Need-offset_bounds-weights-s
+offset_bounds-weights-s c = omega (arith, c.requires.7 c.args.i (omega arith))
+
+bounds-weights-s : tie.Need-bounds-weights-s
+bounds-weights-s c = omega (arith, c.requires.7 c.args.i (omega arith))
+
+overflow_add-branch : tie.Need-overflow_add-branch
+overflow_add-branch c = search rules
+
+overflow_add-branch-2 : tie.Need-overflow_add-branch-2
+overflow_add-branch-2 c = search rules
+
+offset_bounds-weights-n : tie.Need-offset_bounds-weights-n
+offset_bounds-weights-n c = search rules
+
+bounds-weights-n : tie.Need-bounds-weights-n
+bounds-weights-n c = search rules
+
 returns : tie.Need-returns
-returns c = (omega arith, λ l. absurd (omega arith))
-
-returns-2 : tie.Need-returns-2
-returns-2 c = (omega arith, λ l. absurd (omega arith))
-
-mul-s : tie.Need-overflow-mul-s
-mul-s c = search rules
-
-shared-slice-read-s : tie.Need-shared-slice-read-s
-shared-slice-read-s c = search rules
-
-mul-sink : tie.Need-overflow-mul-sink
-mul-sink c = omega (arith, c.before.before.before.requires.7 c.before.before.before.args.i (omega arith))
-
-shared-slice-copy-out-sink : tie.Need-shared-slice-copy-out-sink
-shared-slice-copy-out-sink c = omega (arith, c.before.before.before.requires.7 c.before.before.before.args.i (omega arith))
-
-add-branch : tie.Need-overflow-add-branch
-add-branch c = search rules
-
-add-branch-2 : tie.Need-overflow-add-branch-2
-add-branch-2 c = search rules
-
-mul-branch : tie.Need-overflow-mul-branch
-mul-branch c = search rules
-
-shared-slice-copy-out-branch : tie.Need-shared-slice-copy-out-branch
-shared-slice-copy-out-branch c = search rules
-
-returns-3 : tie.Need-returns-3
-returns-3 c =
-    let a = c.before.before.before.before.before.args in
+returns c =
+    let a = c.args in
     let s = get_or a.order.now a.i 0 in
     let e : a.n + a.j + 1 ≡ a.n + suc a.j = omega arith in
-    let f : SFits w64 (get_or a.weights.now s (pos 0)) = fit (get_or a.weights.now s (pos 0)) c.before.sink.given in
-    let g : SFits w64 (get_or a.weights.now (a.n + a.j + 1) (pos 0)) = fit (get_or a.weights.now (a.n + a.j + 1) (pos 0)) c.branch.given in
+    let f : SFits w64 (get_or a.weights.now s (pos 0)) = fit (get_or a.weights.now s (pos 0)) c.sink-1.given in
+    let g : SFits w64 (get_or a.weights.now (a.n + a.j + 1) (pos 0)) = fit (get_or a.weights.now (a.n + a.j + 1) (pos 0)) c.branch-1.given in
     weights_tell a.n a.k (λ v. get_or a.weights.now v (pos 0)) (λ q. get_or a.order.now q 0) a.i a.j (omega arith) (omega arith) _
     (sym (ap₂ le_z (to_z-of_z f) (to_z-of_z g ∙ ap (λ (v : ℕ). get_or a.weights.now v (pos 0)) e)))
 
-pub sink-goes-first-spec : {M : Type 1} → statement M
-sink-goes-first-spec =
+pub sink_goes_first_spec : {M : Type 1} → statement M
+sink_goes_first_spec =
     tie.close
     (tie.spec
-    returns
-    returns-2
-    mul-s
-    shared-slice-read-s
-    mul-sink
-    shared-slice-copy-out-sink
-    add-branch
-    add-branch-2
-    mul-branch
-    shared-slice-copy-out-branch
-    returns-3)
+    returns-then-i-n
+    returns-then-j-k
+    offset_bounds-order-i
+    bounds-order-i
+    offset_bounds-weights-s
+    bounds-weights-s
+    overflow_add-branch
+    overflow_add-branch-2
+    offset_bounds-weights-n
+    bounds-weights-n
+    returns)

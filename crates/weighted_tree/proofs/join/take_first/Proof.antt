@@ -9,53 +9,53 @@ use borrow.Author.Rules.{rules}
 use Rattle.weighted_tree.proofs.join.take_first.Statement.{statement}
 use Rattle.weighted_tree.proofs.join.take_first.Tie as tie
 
-sink-goes-first-requires : tie.Need-sink-goes-first-requires
-sink-goes-first-requires c κs = search rules
+sink_goes_first-requires : tie.Need-sink_goes_first-requires
+sink_goes_first-requires c κs = search rules
 
-mul-s : tie.Need-overflow-mul-s
-mul-s c = search rules
+offset_bounds-order-i : tie.Need-offset_bounds-order-i
+offset_bounds-order-i c = search rules
 
-shared-slice-read-s : tie.Need-shared-slice-read-s
-shared-slice-read-s c =
-    let a = c.before.before.before.before.args in
-    let r = c.before.before.sink-goes-first in
-    let t = sink_taken a.n a.k (λ v. get_or a.weights.now v (pos 0)) (λ q. get_or a.order.now q 0) a.i a.j r.result c.before.if1.true r.ensures in
+bounds-order-i : tie.Need-bounds-order-i
+bounds-order-i c =
+    let a = c.args in
+    let r = c.sink_goes_first in
+    let t = sink_taken a.n a.k (λ v. get_or a.weights.now v (pos 0)) (λ q. get_or a.order.now q 0) a.i a.j r.result c.if-sink_goes_first.true r.ensures in
     omega (arith, t.0)
 
-add-t9 : tie.Need-overflow-add-t9
-add-t9 c = search rules
+overflow_add-result : tie.Need-overflow_add-result
+overflow_add-result c = search rules
+
+returns-then-sink_goes_first : tie.Need-returns-then-sink_goes_first
+returns-then-sink_goes_first c =
+    let a = c.args in
+    let r = c.sink_goes_first in
+    inl (sink_taken a.n a.k (λ v. get_or a.weights.now v (pos 0)) (λ q. get_or a.order.now q 0) a.i a.j r.result c.if-sink_goes_first.true r.ensures, refl, omega arith, refl)
+
+overflow_add-result-2 : tie.Need-overflow_add-result-2
+overflow_add-result-2 c = search rules
+
+overflow_add-result-3 : tie.Need-overflow_add-result-3
+overflow_add-result-3 c = search rules
+
+overflow_add-result-4 : tie.Need-overflow_add-result-4
+overflow_add-result-4 c = search rules
 
 returns : tie.Need-returns
 returns c =
-    let a = c.before.before.before.before.args in
-    let r = c.before.before.sink-goes-first in
-    inl (sink_taken a.n a.k (λ v. get_or a.weights.now v (pos 0)) (λ q. get_or a.order.now q 0) a.i a.j r.result c.before.if1.true r.ensures, refl, omega arith, refl)
-
-add-t12 : tie.Need-overflow-add-t12
-add-t12 c = search rules
-
-add-t13 : tie.Need-overflow-add-t13
-add-t13 c = search rules
-
-add-t14 : tie.Need-overflow-add-t14
-add-t14 c = search rules
-
-returns-2 : tie.Need-returns-2
-returns-2 c =
-    let a = c.before.before.before.args in
-    let r = c.before.sink-goes-first in
-    inr (branch_taken a.n a.k (λ v. get_or a.weights.now v (pos 0)) (λ q. get_or a.order.now q 0) a.i a.j r.result c.if1.false r.ensures, omega arith, refl, omega arith)
+    let a = c.args in
+    let r = c.sink_goes_first in
+    inr (branch_taken a.n a.k (λ v. get_or a.weights.now v (pos 0)) (λ q. get_or a.order.now q 0) a.i a.j r.result c.if-sink_goes_first.false r.ensures, omega arith, refl, omega arith)
 
 pub take_first_spec : {M : Type 1} → statement M
 take_first_spec =
     tie.close
     (tie.spec
-    sink-goes-first-requires
-    mul-s
-    shared-slice-read-s
-    add-t9
-    returns
-    add-t12
-    add-t13
-    add-t14
-    returns-2)
+    sink_goes_first-requires
+    offset_bounds-order-i
+    bounds-order-i
+    overflow_add-result
+    returns-then-sink_goes_first
+    overflow_add-result-2
+    overflow_add-result-3
+    overflow_add-result-4
+    returns)

@@ -9,115 +9,115 @@ use borrow.Author.Rules.{rules}
 use Rattle.weighted_tree.proofs.make.make.Statement.{statement}
 use Rattle.weighted_tree.proofs.make.make.Tie as tie
 
-order-by-requires : tie.Need-order-by-requires
-order-by-requires c κs =
-    let s = c.before.before.before.before.before in
+order_by-requires : tie.Need-order_by-requires
+order_by-requires c κs =
+    let s = c in
     let a = s.args in
     let f = some_few a.h a.n a.xs.now a.ys.now a.required.now s.requires.0.0 in
     let r = s.requires.1 in
     (f.0, f.1, s.requires.0.1.long, omega (arith, r.order_long))
 
-join-all-requires : tie.Need-join-all-requires
-join-all-requires c κs =
-    let s = c.before.before.before.before.before.before.before.before.before.before.before in
+join_all-requires : tie.Need-join_all-requires
+join_all-requires c κs =
+    let s = c in
     let a = s.args in
     let f = some_few a.h a.n a.xs.now a.ys.now a.required.now s.requires.0.0 in
     let r = s.requires.1 in
-    let o = c.before.before.before.before.before.order-by in
-    (s.requires.0.1, f.0, f.1, r.weights_long, r.parents_long, omega (arith, r.order_long, o.auto.1.1.0), o.ensures)
+    let o = c.order_by in
+    (s.requires.0.1, f.0, f.1, r.weights_long, r.parents_long, omega (arith, r.order_long, o.auto.sinks), o.ensures)
 
-number-up-requires : tie.Need-number-up-requires
-number-up-requires c κs =
-    let s = c.before.before.before.before.before.before.before.before.before.before.before.before.before.before.before.before in
+number_up-requires : tie.Need-number_up-requires
+number_up-requires c κs =
+    let s = c in
     let a = s.args in
     let f = some_few a.h a.n a.xs.now a.ys.now a.required.now s.requires.0.0 in
     let r = s.requires.1 in
-    let o = c.before.before.before.before.before.before.before.before.before.before.order-by in
-    (f.0, f.1, omega (arith, r.order_long, o.auto.1.1.0))
+    let o = c.order_by in
+    (f.0, f.1, omega (arith, r.order_long, o.auto.sinks))
 
 settle-requires : tie.Need-settle-requires
 settle-requires c κs =
-    let s = c.before.before.before.before.before.before.before.before.before.before.before.before.before.before.before.before.before.before.before.before.before.before.before.before in
+    let s = c in
     let a = s.args in
     let f = some_few a.h a.n a.xs.now a.ys.now a.required.now s.requires.0.0 in
     let r = s.requires.1 in
-    let o = c.before.before.before.before.before.before.before.before.before.before.before.before.before.before.before.before.before.before.order-by in
-    let j = c.before.before.before.before.before.before.before.before.before.before.before.before.join-all in
-    let u = c.before.before.before.before.before.before.before.number_up in
-    (numbers_up a.n (weights_of a.n a.weights.now) f.0 f.1 j.new.1.1.1.0 (omega (arith, r.parents_long, j.auto.1.1.1.0)) j.ensures u.new.1.0 u.ensures, (omega (arith, r.order_long, o.auto.1.1.0, u.auto.1.0), r.xs_long, r.ys_long, r.room_long))
+    let o = c.order_by in
+    let j = c.join_all in
+    let u = c.number_up in
+    (numbers_up a.n (weights_of a.n a.weights.now) f.0 f.1 j.new.parents (omega (arith, r.parents_long, j.auto.parents)) j.ensures u.new.order u.ensures, (omega (arith, r.order_long, o.auto.sinks, u.auto.order), r.xs_long, r.ys_long, r.room_long))
 
-number-down-requires : tie.Need-number-down-requires
-number-down-requires c κs =
-    let s = c.before.before.before.before.before.before.before.before.before.before.before.before.before.before.before.before.before.before.before.before.before.before.before.before.before.before.before.before.before.before in
+number_down-requires : tie.Need-number_down-requires
+number_down-requires c κs =
+    let s = c in
     let a = s.args in
     let f = some_few a.h a.n a.xs.now a.ys.now a.required.now s.requires.0.0 in
     let r = s.requires.1 in
-    let o = c.before.before.before.before.before.before.before.before.before.before.before.before.before.before.before.before.before.before.before.before.before.before.before.before.order-by in
-    let u = c.before.before.before.before.before.before.before.before.before.before.before.before.before.number_up in
-    (f.0, f.1, omega (arith, r.order_long, o.auto.1.1.0, u.auto.1.0))
+    let o = c.order_by in
+    let u = c.number_up in
+    (f.0, f.1, omega (arith, r.order_long, o.auto.sinks, u.auto.order))
 
-measure-tree-requires : tie.Need-measure-tree-requires
-measure-tree-requires c κs =
-    let s = c.before.before.before.before.before.before.before.before.before.before.before.before.before.before.before.before.before.before.before.before.before.before.before.before.before.before.before.before.before.before.before.before.before.before.before.before.before.before in
+measure_tree-requires : tie.Need-measure_tree-requires
+measure_tree-requires c κs =
+    let s = c in
     let a = s.args in
     let f = some_few a.h a.n a.xs.now a.ys.now a.required.now s.requires.0.0 in
     let r = s.requires.1 in
-    let o = c.before.before.before.before.before.before.before.before.before.before.before.before.before.before.before.before.before.before.before.before.before.before.before.before.before.before.before.before.before.before.before.before.order-by in
-    let j = c.before.before.before.before.before.before.before.before.before.before.before.before.before.before.before.before.before.before.before.before.before.before.before.before.before.before.join-all in
-    let u = c.before.before.before.before.before.before.before.before.before.before.before.before.before.before.before.before.before.before.before.before.before.number_up in
-    let m = c.before.before.before.before.before.before.before.before.before.before.before.before.before.settle in
-    let d = c.before.before.before.before.before.before.before.number-down in
-    let q = made_holds a.n (weights_of a.n a.weights.now) f.0 f.1 j.new.1.1.1.0 (omega (arith, r.parents_long, j.auto.1.1.1.0)) j.ensures a.h a.xs.now a.ys.now a.required.now m.new.1.1.1.0 m.new.1.1.1.1.0 s.requires.0.0 (omega (arith, r.xs_long, m.auto.1.1.1.0)) (omega (arith, r.ys_long, m.auto.1.1.1.1.0)) (m.ensures.0 a.h a.required.now) m.ensures.1 in
-    (q.0, q.1, numbers_down a.n (weights_of a.n a.weights.now) f.0 f.1 j.new.1.1.1.0 (omega (arith, r.parents_long, j.auto.1.1.1.0)) j.ensures d.new.1.0 (omega (arith, r.order_long, o.auto.1.1.0, u.auto.1.0, d.auto.1.0)) d.ensures, r.slacks_long)
+    let o = c.order_by in
+    let j = c.join_all in
+    let u = c.number_up in
+    let m = c.settle in
+    let d = c.number_down in
+    let q = made_holds a.n (weights_of a.n a.weights.now) f.0 f.1 j.new.parents (omega (arith, r.parents_long, j.auto.parents)) j.ensures a.h a.xs.now a.ys.now a.required.now m.new.xs m.new.ys s.requires.0.0 (omega (arith, r.xs_long, m.auto.xs)) (omega (arith, r.ys_long, m.auto.ys)) (m.ensures.0 a.h a.required.now) m.ensures.1 in
+    (q.0, q.1, numbers_down a.n (weights_of a.n a.weights.now) f.0 f.1 j.new.parents (omega (arith, r.parents_long, j.auto.parents)) j.ensures d.new.order (omega (arith, r.order_long, o.auto.sinks, u.auto.order, d.auto.order)) d.ensures, r.slacks_long)
 
-same_length : tie.Need-same-length
-same_length c = search rules
+shape_of-xs : tie.Need-shape_of-xs
+shape_of-xs c = search rules
 
-same-length-2 : tie.Need-same-length-2
-same-length-2 c = search rules
+shape_of-ys : tie.Need-shape_of-ys
+shape_of-ys c = search rules
 
-same-length-3 : tie.Need-same-length-3
-same-length-3 c = search rules
+shape_of-weights : tie.Need-shape_of-weights
+shape_of-weights c = search rules
 
-same-length-4 : tie.Need-same-length-4
-same-length-4 c = search rules
+shape_of-parents : tie.Need-shape_of-parents
+shape_of-parents c = search rules
 
-same-length-5 : tie.Need-same-length-5
-same-length-5 c = c.before.before.before.before.before.before.before.before.before.number-down.auto.1.0 ∙ c.before.before.before.before.before.before.before.before.before.before.before.before.before.before.before.before.before.before.before.before.before.before.before.number_up.auto.1.0 ∙ c.before.before.before.before.before.before.before.before.before.before.before.before.before.before.before.before.before.before.before.before.before.before.before.before.before.before.before.before.before.before.before.before.before.before.order-by.auto.1.1.0
+shape_of-order : tie.Need-shape_of-order
+shape_of-order c = c.number_down.auto.order ∙ c.number_up.auto.order ∙ c.order_by.auto.sinks
 
-same-length-6 : tie.Need-same-length-6
-same-length-6 c = search rules
+shape_of-room : tie.Need-shape_of-room
+shape_of-room c = search rules
 
-same-length-7 : tie.Need-same-length-7
-same-length-7 c = search rules
+shape_of-slacks : tie.Need-shape_of-slacks
+shape_of-slacks c = search rules
 
 returns : tie.Need-returns
 returns c =
-    let s = c.before.before.before.before.before.before.before.before.before.before.before.before.before.before.before.before.before.before.before.before.before.before.before.before.before.before.before.before.before.before.before.before.before.before.before.before.before.before.before.before in
+    let s = c in
     let a = s.args in
     let f = some_few a.h a.n a.xs.now a.ys.now a.required.now s.requires.0.0 in
     let r = s.requires.1 in
-    let j = c.before.before.before.before.before.before.before.before.before.before.before.before.before.before.before.before.before.before.before.before.before.before.before.before.before.before.before.before.join-all in
-    let m = c.before.before.before.before.before.before.before.before.before.before.before.before.before.before.before.settle in
-    let t = c.before.measure-tree in
-    let q = made_tree a.n (weights_of a.n a.weights.now) f.0 f.1 j.new.1.1.1.0 (omega (arith, r.parents_long, j.auto.1.1.1.0)) j.ensures a.h a.xs.now a.ys.now a.required.now m.new.1.1.1.0 m.new.1.1.1.1.0 s.requires.0.0 (omega (arith, r.xs_long, m.auto.1.1.1.0)) (omega (arith, r.ys_long, m.auto.1.1.1.1.0)) (m.ensures.0 a.h a.required.now) m.ensures.1 in
+    let j = c.join_all in
+    let m = c.settle in
+    let t = c.measure_tree in
+    let q = made_tree a.n (weights_of a.n a.weights.now) f.0 f.1 j.new.parents (omega (arith, r.parents_long, j.auto.parents)) j.ensures a.h a.xs.now a.ys.now a.required.now m.new.xs m.new.ys s.requires.0.0 (omega (arith, r.xs_long, m.auto.xs)) (omega (arith, r.ys_long, m.auto.ys)) (m.ensures.0 a.h a.required.now) m.ensures.1 in
     (q.1, (m.ensures.1, (t.ensures.0 ∙ (λ i. worst_slack (q.0 i) (q.1 i)), t.ensures.1 ∙ (λ i. wire_length (q.0 i) (q.1 i)))))
 
 pub make_spec : {M : Type 1} → statement M
 make_spec =
     tie.close
     (tie.spec
-    order-by-requires
-    join-all-requires
-    number-up-requires
+    order_by-requires
+    join_all-requires
+    number_up-requires
     settle-requires
-    number-down-requires
-    measure-tree-requires
-    same_length
-    same-length-2
-    same-length-3
-    same-length-4
-    same-length-5
-    same-length-6
-    same-length-7
+    number_down-requires
+    measure_tree-requires
+    shape_of-xs
+    shape_of-ys
+    shape_of-weights
+    shape_of-parents
+    shape_of-order
+    shape_of-room
+    shape_of-slacks
     returns)

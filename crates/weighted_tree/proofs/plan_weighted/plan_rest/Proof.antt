@@ -21,75 +21,75 @@ use Rattle.weighted_tree.proofs.plan_weighted.plan_rest.Statement.{statement}
 use Rattle.weighted_tree.proofs.plan_weighted.plan_rest.Tie as tie
 
 -- the net that was read into the arrays
-abbrev net : tie.After-enum-told → Net
-net c = let a = c.before.before.before.before.before.before.before.before.before.before.before.before.before.before.before.before.args in let l = c.before.before.before.before.before.before.read-rest.new.1.1.1.1 in net_of a.header a.n l.0 l.1.0 l.1.1.0
+abbrev net : tie.In_default → Net
+net c = let a = c.args in let l = c.read_rest.new.xs in net_of a.header a.n l.0 l.1.0 l.1.1.0
 
-sized : (c : tie.After-enum-told) → size (net c) ≡ c.before.before.before.before.before.before.before.before.before.before.before.before.before.before.before.before.args.n
-sized c = let a = c.before.before.before.before.before.before.before.before.before.before.before.before.before.before.before.before.args in let l = c.before.before.before.before.before.before.read-rest.new.1.1.1.1 in size_is a.header a.n l.0 l.1.0 l.1.1.0
+sized : (c : tie.In_default) → size (net c) ≡ c.args.n
+sized c = let a = c.args in let l = c.read_rest.new.xs in size_is a.header a.n l.0 l.1.0 l.1.1.0
 
 -- and the weights beside it
-abbrev weights : tie.After-enum-told → List ℕ
-weights c = weights_of c.before.before.before.before.before.before.before.before.before.before.before.before.before.before.before.before.args.n c.before.before.before.before.before.before.read-rest.new.1.1.1.1.1.1.1.0
+abbrev weights : tie.In_default → List ℕ
+weights c = weights_of c.args.n c.read_rest.new.weights
 
-read : (c : tie.After-enum-told) → read_weighted c.before.before.before.before.before.before.before.before.before.before.before.before.before.before.before.before.args.net.now ≡ value (record { net = net c; weights = weights c })
-read c = let s = c.before.before.before.before.before.before.before.before.before.before.before.before.before.before.before.before in s.requires.0.0 ∙ (rw c.enum_told.given.1 at (c.before.before.before.before.before.before.read-rest.ensures s.args.header))
+read : (c : tie.In_default) → read_weighted c.args.net.now ≡ value (record { net = net c; weights = weights c })
+read c = let s = c in s.requires.0.0 ∙ (rw c.enum_told-1.given.1 at (c.read_rest.ensures s.args.header))
 
-holds : (c : tie.After-enum-told) → (let a = c.before.before.before.before.before.before.before.before.before.before.before.before.before.before.before.before.args in let l = c.before.before.before.before.before.before.read-rest.new.1.1.1.1 in HoldsNet a.header a.n l.0 l.1.0 l.1.1.0)
+holds : (c : tie.In_default) → (let a = c.args in let l = c.read_rest.new.xs in HoldsNet a.header a.n l.0 l.1.0 l.1.1.0)
 holds c =
-    let s = c.before.before.before.before.before.before.before.before.before.before.before.before.before.before.before.before in
+    let s = c in
     let a = s.args in
-    let r = c.before.before.before.before.before.before.read-rest in
-    let l = r.new.1.1.1.1 in
+    let r = c.read_rest in
+    let l = r.new.xs in
     let p = s.requires.1.0 in
     read_net_holds a.header a.n l.0 l.1.0 l.1.1.0 _ (net_of_lem _ _ (read c)) (omega (arith, r.auto, p)) (omega (arith, r.auto, p)) (omega (arith, r.auto, p))
 
-weighs : (c : tie.After-enum-told) → HoldsWeights c.before.before.before.before.before.before.before.before.before.before.before.before.before.before.before.before.args.n c.before.before.before.before.before.before.read-rest.new.1.1.1.1.1.1.1.0
+weighs : (c : tie.In_default) → HoldsWeights c.args.n c.read_rest.new.weights
 weighs c =
-    let s = c.before.before.before.before.before.before.before.before.before.before.before.before.before.before.before.before in
+    let s = c in
     let a = s.args in
-    let r = c.before.before.before.before.before.before.read-rest in
-    let l = r.new.1.1.1.1 in
+    let r = c.read_rest in
+    let l = r.new.xs in
     read_weights_hold a.header a.n l.0 l.1.0 l.1.1.0 _ _ (read c) (omega (arith, r.auto, s.requires.1.0))
 
 -- the listing of its tree
-abbrev listing : tie.After-make → Listing
-listing c = let m = c.make in listing_held m.result.worst m.result.wire c.before.before.before.before.before.before.before.before.before.before.before.before.before.before.before.before.before.before.before.before.before.before.before.before.before.args.n m.new.1.1.1.1.1.1.0 m.new.1.1.0 m.new.1.1.1.0
+abbrev listing : tie.After-make-tally → Listing
+listing c = let m = c.make-tally in listing_held m.result.worst m.result.wire c.args.n m.new.parents m.new.xs m.new.ys
 
-made : (c : tie.After-make) → listing c ≡ stated (net c.before.before.before.before.before.before.before.before.before) (weighted_tree (net c.before.before.before.before.before.before.before.before.before) (weights c.before.before.before.before.before.before.before.before.before))
-made c = let e = c.make.ensures in λ i. record { slack = e.1.1.0 i; wire = e.1.1.1 i; tree = e.0 i }
+made : (c : tie.After-make-tally) → listing c ≡ stated (net c.before.before.before.before.before.before.before.before) (weighted_tree (net c.before.before.before.before.before.before.before.before) (weights c.before.before.before.before.before.before.before.before))
+made c = let e = c.make-tally.ensures in λ i. record { slack = e.1.1.0 i; wire = e.1.1.1 i; tree = e.0 i }
 
-read-rest-requires : tie.Need-read-rest-requires
-read-rest-requires c κs = search rules
+read_rest-requires : tie.Need-read_rest-requires
+read_rest-requires c κs = search rules
 
-enum-known-refusal : tie.Need-enum-known-refusal
-enum-known-refusal c = search rules
+enum_known-refusal : tie.Need-enum_known-refusal
+enum_known-refusal c = search rules
 
-same_length : tie.Need-same-length
-same_length c = search rules
+shape_of-xs-in-NetRefused : tie.Need-shape_of-xs-in-NetRefused
+shape_of-xs-in-NetRefused c = search rules
 
-same-length-2 : tie.Need-same-length-2
-same-length-2 c = search rules
+shape_of-ys-in-NetRefused : tie.Need-shape_of-ys-in-NetRefused
+shape_of-ys-in-NetRefused c = search rules
 
-same-length-3 : tie.Need-same-length-3
-same-length-3 c = search rules
+shape_of-required-in-NetRefused : tie.Need-shape_of-required-in-NetRefused
+shape_of-required-in-NetRefused c = search rules
 
-same-length-4 : tie.Need-same-length-4
-same-length-4 c = search rules
+shape_of-weights-in-NetRefused : tie.Need-shape_of-weights-in-NetRefused
+shape_of-weights-in-NetRefused c = search rules
 
-returns : tie.Need-returns
-returns c =
-    let s = c.before.before.before.before.before.before.before.before.before.before.before.before.before.before.before.before.before in
-    tree_refused_answer weighted_tree s.args.net.now s.args.out.now _ (s.requires.0.0 ∙ (rw c.before.refusal.given.1 at (c.before.before.before.before.before.before.before.read-rest.ensures s.args.header)))
+returns-in-NetRefused : tie.Need-returns-in-NetRefused
+returns-in-NetRefused c =
+    let s = c in
+    tree_refused_answer weighted_tree s.args.net.now s.args.out.now _ (s.requires.0.0 ∙ (rw c.refusal-1.given.1 at (c.read_rest.ensures s.args.header)))
 
-enum_told : tie.Need-enum-told
-enum_told c = search rules
+enum_told-1 : tie.Need-enum_told-1
+enum_told-1 c = search rules
 
-make-requires : tie.Need-make-requires
-make-requires c κs =
-    let p = c.before.before.before.before.before.before.before.before.before.before.before.before.before.before.before.before.before.before.before.before.before.before.before.before.requires.1.1 in
-    let k = c.before.before.before.before.before.before.before.before.before.before.before.before.before.before.read-rest.auto in
-    let d = c.before.before.before.before.before.before.before.before in (
-      (holds d, weighs d),
+make-tally-requires : tie.Need-make-tally-requires
+make-tally-requires c κs =
+    let p = c.requires.1.1 in
+    let k = c.read_rest.auto in
+    let d = c in (
+      (holds d.before.before.before.before.before.before.before, weighs d.before.before.before.before.before.before.before),
       record {
         xs_long = omega (arith, k, p.xs_long);
         ys_long = omega (arith, k, p.ys_long);
@@ -103,68 +103,68 @@ make-requires c κs =
 
 emit-requires : tie.Need-emit-requires
 emit-requires c κs =
-    let d = c.before.before.before.before.before.before.before.before.before.before.before.before.before.before in
-    let p = c.before.before.before.before.before.before.before.before.before.before.before.before.before.before.before.before.before.before.before.before.before.before.before.before.before.before.before.before.before.before.before.before.before.before.before.before.before.before.before.requires.1.1 in
-    let k = c.before.before.before.before.before.before.before.before.before.before.before.before.before.before.before.before.before.before.before.before.before.before.before.before.before.before.before.before.before.read-rest.auto in
-    let m = d.make.auto in
-    (made_in_range weighted_tree weighted_makes (net c.before.before.before.before.before.before.before.before.before.before.before.before.before.before.before.before.before.before.before.before.before.before.before) (weights c.before.before.before.before.before.before.before.before.before.before.before.before.before.before.before.before.before.before.before.before.before.before.before) _ (listing d) (sized c.before.before.before.before.before.before.before.before.before.before.before.before.before.before.before.before.before.before.before.before.before.before.before) (made d) (holds c.before.before.before.before.before.before.before.before.before.before.before.before.before.before.before.before.before.before.before.before.before.before.before).in_range, (omega (arith, m, p.parents_long), omega (arith, m, k, p.xs_long), omega (arith, m, k, p.ys_long)))
+    let d = c in
+    let p = c.requires.1.1 in
+    let k = c.read_rest.auto in
+    let m = d.make-tally.auto in
+    (made_in_range weighted_tree weighted_makes (net c.before.before.before.before.before.before.before.before.before.before.before.before.before.before.before.before.before.before.before.before.before) (weights c.before.before.before.before.before.before.before.before.before.before.before.before.before.before.before.before.before.before.before.before.before) _ (listing d.before.before.before.before.before.before.before.before.before.before.before.before.before) (sized c.before.before.before.before.before.before.before.before.before.before.before.before.before.before.before.before.before.before.before.before.before) (made d.before.before.before.before.before.before.before.before.before.before.before.before.before) (holds c.before.before.before.before.before.before.before.before.before.before.before.before.before.before.before.before.before.before.before.before.before).in_range, (omega (arith, m, p.parents_long), omega (arith, m, k, p.xs_long), omega (arith, m, k, p.ys_long)))
 
-same-length-5 : tie.Need-same-length-5
-same-length-5 c = omega (arith, c.before.before.before.before.before.before.before.before.before.before.before.before.before.before.before.before.before.make.auto, c.before.before.before.before.before.before.before.before.before.before.before.before.before.before.before.before.before.before.before.before.before.before.before.before.before.before.before.before.before.before.before.before.read-rest.auto)
+shape_of-xs : tie.Need-shape_of-xs
+shape_of-xs c = omega (arith, c.make-tally.auto, c.read_rest.auto)
 
-same-length-6 : tie.Need-same-length-6
-same-length-6 c = omega (arith, c.before.before.before.before.before.before.before.before.before.before.before.before.before.before.before.before.before.make.auto, c.before.before.before.before.before.before.before.before.before.before.before.before.before.before.before.before.before.before.before.before.before.before.before.before.before.before.before.before.before.before.before.before.read-rest.auto)
+shape_of-ys : tie.Need-shape_of-ys
+shape_of-ys c = omega (arith, c.make-tally.auto, c.read_rest.auto)
 
-same-length-7 : tie.Need-same-length-7
-same-length-7 c = omega (arith, c.before.before.before.before.before.before.before.before.before.before.before.before.before.before.before.before.before.make.auto, c.before.before.before.before.before.before.before.before.before.before.before.before.before.before.before.before.before.before.before.before.before.before.before.before.before.before.before.before.before.before.before.before.read-rest.auto)
+shape_of-required : tie.Need-shape_of-required
+shape_of-required c = omega (arith, c.make-tally.auto, c.read_rest.auto)
 
-same-length-8 : tie.Need-same-length-8
-same-length-8 c = omega (arith, c.before.before.before.before.before.before.before.before.before.before.before.before.before.before.before.before.before.make.auto, c.before.before.before.before.before.before.before.before.before.before.before.before.before.before.before.before.before.before.before.before.before.before.before.before.before.before.before.before.before.before.before.before.read-rest.auto)
+shape_of-weights : tie.Need-shape_of-weights
+shape_of-weights c = omega (arith, c.make-tally.auto, c.read_rest.auto)
 
-same-length-9 : tie.Need-same-length-9
-same-length-9 c = search rules
+shape_of-parents : tie.Need-shape_of-parents
+shape_of-parents c = search rules
 
-same-length-10 : tie.Need-same-length-10
-same-length-10 c = search rules
+shape_of-order : tie.Need-shape_of-order
+shape_of-order c = search rules
 
-same-length-11 : tie.Need-same-length-11
-same-length-11 c = search rules
+shape_of-room : tie.Need-shape_of-room
+shape_of-room c = search rules
 
-same-length-12 : tie.Need-same-length-12
-same-length-12 c = search rules
+shape_of-slacks : tie.Need-shape_of-slacks
+shape_of-slacks c = search rules
 
-same-length-13 : tie.Need-same-length-13
-same-length-13 c = search rules
+shape_of-out : tie.Need-shape_of-out
+shape_of-out c = search rules
 
-returns-2 : tie.Need-returns-2
-returns-2 c =
-    let s = c.before.before.before.before.before.before.before.before.before.before.before.before.before.before.before.before.before.before.before.before.before.before.before.before.before.before.before.before.before.before.before.before.before.before.before.before.before.before.before.before.before.before in
-    let d = c.before.before.before.before.before.before.before.before.before.before.before.before.before.before.before.before.before in
-    let r = c.before.before.before.before.before.before.before.before.before.before.before.before.before.before.before.before.before.before.before.before.before.before.before.before.before.before in
-    let e = c.before.before.emit.ensures in
-    tree_read_answer weighted_tree s.args.net.now s.args.out.now _ (net r) (weights r) s.args.n (listing d) _ (read r) (sized r) (made d) e.0 e.1
+returns : tie.Need-returns
+returns c =
+    let s = c in
+    let d = c in
+    let r = c in
+    let e = c.emit.ensures in
+    tree_read_answer weighted_tree s.args.net.now s.args.out.now _ (net r.before.before.before.before.before.before.before.before.before.before.before.before.before.before.before.before.before.before.before.before.before.before.before.before) (weights r.before.before.before.before.before.before.before.before.before.before.before.before.before.before.before.before.before.before.before.before.before.before.before.before) s.args.n (listing d.before.before.before.before.before.before.before.before.before.before.before.before.before.before.before.before) _ (read r.before.before.before.before.before.before.before.before.before.before.before.before.before.before.before.before.before.before.before.before.before.before.before.before) (sized r.before.before.before.before.before.before.before.before.before.before.before.before.before.before.before.before.before.before.before.before.before.before.before.before) (made d.before.before.before.before.before.before.before.before.before.before.before.before.before.before.before.before) e.0 e.1
 
-pub plan-rest-spec : {M : Type 1} → statement M
-plan-rest-spec =
+pub plan_rest_spec : {M : Type 1} → statement M
+plan_rest_spec =
     tie.close
     (tie.spec
-    read-rest-requires
-    enum-known-refusal
-    same_length
-    same-length-2
-    same-length-3
-    same-length-4
-    returns
-    enum_told
-    make-requires
+    read_rest-requires
+    enum_known-refusal
+    shape_of-xs-in-NetRefused
+    shape_of-ys-in-NetRefused
+    shape_of-required-in-NetRefused
+    shape_of-weights-in-NetRefused
+    returns-in-NetRefused
+    enum_told-1
+    make-tally-requires
     emit-requires
-    same-length-5
-    same-length-6
-    same-length-7
-    same-length-8
-    same-length-9
-    same-length-10
-    same-length-11
-    same-length-12
-    same-length-13
-    returns-2)
+    shape_of-xs
+    shape_of-ys
+    shape_of-required
+    shape_of-weights
+    shape_of-parents
+    shape_of-order
+    shape_of-room
+    shape_of-slacks
+    shape_of-out
+    returns)

@@ -11,21 +11,21 @@ use Rattle.formats.proofs.Laws.Listings.ListingLengths.{number_short, line1_shor
 use Rattle.writing.proofs.line_length.line2_length.Statement.{statement}
 use Rattle.writing.proofs.line_length.line2_length.Tie as tie
 
-front-is : (c : tie.After-line1-length) → c.line1-length.result ≡ length (line_text c.before.before.args.key.now (c.before.before.args.a ∷ []))
-front-is c = rw (to_z-of_z c.before.before.ranges.a) at c.line1-length.ensures
+front-is : (c : tie.After-line1_length) → c.line1_length.result ≡ length (line_text c.args.key.now (c.args.a ∷ []))
+front-is c = rw (to_z-of_z c.ranges.a) at c.line1_length.ensures
 
-number_is : (c : tie.After-number-length) → c.number-length.result ≡ length (show c.before.before.before.args.b)
-number_is c = rw (to_z-of_z c.before.before.before.ranges.b) at c.number-length.ensures
+number_is : (c : tie.After-number_length) → c.number_length.result ≡ length (show c.args.b)
+number_is c = rw (to_z-of_z c.ranges.b) at c.number_length.ensures
 
-line1-length-requires : tie.Need-line1-length-requires
-line1-length-requires c κs = search rules
+line1_length-requires : tie.Need-line1_length-requires
+line1_length-requires c κs = search rules
 
-number-length-requires : tie.Need-number-length-requires
-number-length-requires c κs = search rules
+number_length-requires : tie.Need-number_length-requires
+number_length-requires c κs = search rules
 
-add-result-2 : tie.Need-overflow-add-result-2
-add-result-2 c =
-    let st = c.before.before.before in
+overflow_add-result-2 : tie.Need-overflow_add-result-2
+overflow_add-result-2 c =
+    let st = c in
     let a = st.args in
     let f = front-is c.before in
     let e = number_is c in
@@ -33,15 +33,15 @@ add-result-2 c =
     let t = number_short a.b st.requires.1 in
     search rules
 
-add-result : tie.Need-overflow-add-result
-add-result c = omega (arith, add-result-2 c)
+overflow_add-result : tie.Need-overflow_add-result
+overflow_add-result c = omega (arith, overflow_add-result-2 c)
 
 returns : tie.Need-returns
 returns c =
-    let st = c.before.before.before in
+    let st = c in
     omega (arith, front-is c.before, number_is c, line2_long st.args.key.now st.args.a st.args.b)
 
-pub line2-length-spec : {M : Type 1} → statement M
-line2-length-spec =
+pub line2_length_spec : {M : Type 1} → statement M
+line2_length_spec =
     tie.close
-    (tie.spec line1-length-requires number-length-requires add-result add-result-2 returns)
+    (tie.spec line1_length-requires number_length-requires overflow_add-result overflow_add-result-2 returns)

@@ -11,24 +11,24 @@ use Rattle.formats.proofs.Laws.Listings.ListingLengths.{number_short, line2_shor
 use Rattle.writing.proofs.line_length.line4_length.Statement.{statement}
 use Rattle.writing.proofs.line_length.line4_length.Tie as tie
 
-front-is : (c : tie.After-line2-length) → c.line2-length.result ≡ length (line_text c.before.before.args.key.now (c.before.before.args.a ∷ (c.before.before.args.b ∷ [])))
-front-is c = rw (to_z-of_z c.before.before.ranges.a, to_z-of_z c.before.before.ranges.b) at c.line2-length.ensures
+front-is : (c : tie.After-line2_length) → c.line2_length.result ≡ length (line_text c.args.key.now (c.args.a ∷ (c.args.b ∷ [])))
+front-is c = rw (to_z-of_z c.ranges.a, to_z-of_z c.ranges.b) at c.line2_length.ensures
 
-third-is : (c : tie.After-number-length) → c.number-length.result ≡ length (show c.before.before.before.args.c)
-third-is c = rw (to_z-of_z c.before.before.before.ranges.c) at c.number-length.ensures
+third-is : (c : tie.After-number_length) → c.number_length.result ≡ length (show c.args.c)
+third-is c = rw (to_z-of_z c.ranges.c) at c.number_length.ensures
 
-fourth-is : (c : tie.After-number-length2) → c.number-length2.result ≡ length (show c.before.before.before.before.args.d)
-fourth-is c = rw (to_z-of_z c.before.before.before.before.ranges.d) at c.number-length2.ensures
+fourth-is : (c : tie.After-number_length-2) → c.number_length-2.result ≡ length (show c.args.d)
+fourth-is c = rw (to_z-of_z c.ranges.d) at c.number_length-2.ensures
 
-line2-length-requires : tie.Need-line2-length-requires
-line2-length-requires c κs = search rules
+line2_length-requires : tie.Need-line2_length-requires
+line2_length-requires c κs = search rules
 
-number-length-requires : tie.Need-number-length-requires
-number-length-requires c κs = search rules
+number_length-requires : tie.Need-number_length-requires
+number_length-requires c κs = search rules
 
-add-result : tie.Need-overflow-add-result
-add-result c =
-    let st = c.before.before.before in
+overflow_add-result : tie.Need-overflow_add-result
+overflow_add-result c =
+    let st = c in
     let a = st.args in
     let f = front-is c.before in
     let e = third-is c in
@@ -36,12 +36,12 @@ add-result c =
     let t = number_short a.c st.requires.2 in
     search rules
 
-number-length-requires-2 : tie.Need-number-length-requires-2
-number-length-requires-2 c κs = search rules
+number_length-requires-2 : tie.Need-number_length-requires-2
+number_length-requires-2 c κs = search rules
 
-add-result-3 : tie.Need-overflow-add-result-3
-add-result-3 c =
-    let st = c.before.before.before.before in
+overflow_add-result-3 : tie.Need-overflow_add-result-3
+overflow_add-result-3 c =
+    let st = c in
     let a = st.args in
     let f = front-is c.before.before in
     let e = third-is c.before in
@@ -51,22 +51,22 @@ add-result-3 c =
     let u = number_short a.d st.requires.3 in
     search rules
 
-add-result-2 : tie.Need-overflow-add-result-2
-add-result-2 c = omega (arith, add-result-3 c)
+overflow_add-result-2 : tie.Need-overflow_add-result-2
+overflow_add-result-2 c = omega (arith, overflow_add-result-3 c)
 
 returns : tie.Need-returns
 returns c =
-    let a = c.before.before.before.before.args in
+    let a = c.args in
     omega (arith, front-is c.before.before, third-is c.before, fourth-is c, line4_long a.key.now a.a a.b a.c a.d)
 
-pub line4-length-spec : {M : Type 1} → statement M
-line4-length-spec =
+pub line4_length_spec : {M : Type 1} → statement M
+line4_length_spec =
     tie.close
     (tie.spec
-    line2-length-requires
-    number-length-requires
-    add-result
-    number-length-requires-2
-    add-result-2
-    add-result-3
+    line2_length-requires
+    number_length-requires
+    overflow_add-result
+    number_length-requires-2
+    overflow_add-result-2
+    overflow_add-result-3
     returns)

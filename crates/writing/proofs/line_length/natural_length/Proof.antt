@@ -8,47 +8,47 @@ use Rattle.formats.proofs.Laws.Listings.ListingLengths.{four_more, natural_short
 use Rattle.writing.proofs.line_length.natural_length.Statement.{statement}
 use Rattle.writing.proofs.line_length.natural_length.Tie as tie
 
-abbrev invariant-loop : tie.invariant-loop
-invariant-loop n left₀ counted₀ left counted = counted + length (show_nat left) ≡ length (show_nat n)
+abbrev invariant-loop-left : tie.invariant-loop-left
+invariant-loop-left n left₀ counted₀ left counted = counted + length (show_nat left) ≡ length (show_nat n)
 
-abbrev decreases-loop : tie.decreases-loop
-decreases-loop n left₀ counted₀ left counted = left
+abbrev decreases-loop-left : tie.decreases-loop-left
+decreases-loop-left n left₀ counted₀ left counted = left
 
-loop-holds : tie.Need-loop-init invariant-loop decreases-loop
-loop-holds c = omega arith
+loop-left-init : tie.Need-loop-left-init invariant-loop-left decreases-loop-left
+loop-left-init c = omega arith
 
-add-counted : tie.Need-overflow-add-counted invariant-loop decreases-loop
-add-counted c =
-    let st = c.before.before in
-    omega (arith, c.before.loop.invariant, natural_short st.args.n st.requires)
+overflow_add-counted : tie.Need-overflow_add-counted invariant-loop-left decreases-loop-left
+overflow_add-counted c =
+    let st = c in
+    omega (arith, c.loop-left.invariant, natural_short st.args.n st.requires)
 
-loop-less : tie.Need-loop-smaller invariant-loop decreases-loop
-loop-less c = omega arith
+loop-left-smaller : tie.Need-loop-left-smaller invariant-loop-left decreases-loop-left
+loop-left-smaller c = omega arith
 
-loop-again : tie.Need-loop-preserved invariant-loop decreases-loop
-loop-again c = omega (arith, c.before.loop.invariant, four_more c.before.loop.left c.loop-test.true)
+loop-left-preserved : tie.Need-loop-left-preserved invariant-loop-left decreases-loop-left
+loop-left-preserved c = omega (arith, c.loop-left.invariant, four_more c.loop-left.left c.loop-left-test.true)
 
-few-digits-requires : tie.Need-few-digits-requires invariant-loop decreases-loop
-few-digits-requires c κs = omega arith
+few_digits-requires : tie.Need-few_digits-requires invariant-loop-left decreases-loop-left
+few_digits-requires c κs = omega arith
 
-add-result : tie.Need-overflow-add-result invariant-loop decreases-loop
-add-result c =
-    let st = c.before.before.before in
-    omega (arith, c.before.before.loop.invariant, c.few-digits.ensures, natural_short st.args.n st.requires)
+overflow_add-result : tie.Need-overflow_add-result invariant-loop-left decreases-loop-left
+overflow_add-result c =
+    let st = c in
+    omega (arith, c.loop-left.invariant, c.few_digits.ensures, natural_short st.args.n st.requires)
 
-returns : tie.Need-returns invariant-loop decreases-loop
-returns c = omega (arith, c.before.before.loop.invariant, c.few-digits.ensures)
+returns : tie.Need-returns invariant-loop-left decreases-loop-left
+returns c = omega (arith, c.loop-left.invariant, c.few_digits.ensures)
 
-pub natural-length-spec : {M : Type 1} → statement M
-natural-length-spec =
+pub natural_length_spec : {M : Type 1} → statement M
+natural_length_spec =
     tie.close
     (tie.spec
-    invariant-loop
-    decreases-loop
-    loop-holds
-    add-counted
-    loop-less
-    loop-again
-    few-digits-requires
-    add-result
+    invariant-loop-left
+    decreases-loop-left
+    loop-left-init
+    overflow_add-counted
+    loop-left-smaller
+    loop-left-preserved
+    few_digits-requires
+    overflow_add-result
     returns)

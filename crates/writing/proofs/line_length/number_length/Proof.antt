@@ -11,35 +11,35 @@ use Rattle.formats.proofs.Laws.Listings.ListingLengths.{natural_short}
 use Rattle.writing.proofs.line_length.number_length.Statement.{statement}
 use Rattle.writing.proofs.line_length.number_length.Tie as tie
 
-mag_is : (c : tie.After-magnitude) → c.magnitude.result ≡ nat_abs c.before.args.z
-mag_is c = c.magnitude.ensures ∙ ap nat_abs (to_z-of_z c.before.ranges.z)
+mag_is : (c : tie.After-magnitude) → c.magnitude.result ≡ nat_abs c.args.z
+mag_is c = c.magnitude.ensures ∙ ap nat_abs (to_z-of_z c.ranges.z)
 
-digits_are : (c : tie.After-natural-length) → c.natural-length.result ≡ length (show_nat (nat_abs c.before.before.args.z))
-digits_are c = rw (mag_is c.before) at c.natural-length.ensures
+digits_are : (c : tie.After-natural_length-digits) → c.natural_length-digits.result ≡ length (show_nat (nat_abs c.args.z))
+digits_are c = rw (mag_is c.before) at c.natural_length-digits.ensures
 
 magnitude-requires : tie.Need-magnitude-requires
 magnitude-requires c κs = search rules
 
-natural-length-requires : tie.Need-natural-length-requires
-natural-length-requires c κs = rw (mag_is c) c.before.requires
+natural_length-digits-requires : tie.Need-natural_length-digits-requires
+natural_length-digits-requires c κs = rw (mag_is c) c.requires
 
-add-result : tie.Need-overflow-add-result
-add-result c =
-    let st = c.before.before.before in
+overflow_add-result : tie.Need-overflow_add-result
+overflow_add-result c =
+    let st = c in
     omega (arith, digits_are c.before, natural_short (nat_abs st.args.z) st.requires)
 
-returns : tie.Need-returns
-returns c =
-    let st = c.before.before.before in
-    let minus = show_minus st.args.z (rw (to_z-of_z st.ranges.z) at c.if1.true) in
+returns-then-z-lt0 : tie.Need-returns-then-z-lt0
+returns-then-z-lt0 c =
+    let st = c in
+    let minus = show_minus st.args.z (rw (to_z-of_z st.ranges.z) at c.if-z-lt0.true) in
     omega (arith, digits_are c.before, ap length minus)
 
-returns-2 : tie.Need-returns-2
-returns-2 c =
-    let st = c.before.before.before in
-    let plain = show_plain st.args.z (rw (to_z-of_z st.ranges.z) at c.if1.false) in
+returns-else-z-lt0 : tie.Need-returns-else-z-lt0
+returns-else-z-lt0 c =
+    let st = c in
+    let plain = show_plain st.args.z (rw (to_z-of_z st.ranges.z) at c.if-z-lt0.false) in
     omega (arith, digits_are c.before, ap length plain)
 
-pub number-length-spec : {M : Type 1} → statement M
-number-length-spec =
-    tie.close (tie.spec magnitude-requires natural-length-requires add-result returns returns-2)
+pub number_length_spec : {M : Type 1} → statement M
+number_length_spec =
+    tie.close (tie.spec magnitude-requires natural_length-digits-requires overflow_add-result returns-then-z-lt0 returns-else-z-lt0)

@@ -24,73 +24,73 @@ use Rattle.writing.proofs.listing_length.head_length.Tie as tie
 slack-writable : (c : tie.Start) → Writable c.args.slack.0
 slack-writable c = within_writable slack_limit _ (omega arith) c.requires.0
 
-slack-back : (c : tie.After-attoseconds) → rd c.attoseconds.result ≡ c.before.before.args.slack.0
-slack-back c = ap rd c.attoseconds.ensures ∙ within_back slack_limit _ (omega arith) c.before.before.requires.0
+slack-back : (c : tie.After-attoseconds) → rd c.attoseconds.result ≡ c.args.slack.0
+slack-back c = ap rd c.attoseconds.ensures ∙ within_back slack_limit _ (omega arith) c.requires.0
 
-wire-back : (c : tie.After-nanometres) → to_z w64 c.nanometres.result ≡ pos c.before.before.before.before.before.args.wire.0
-wire-back c = ap (to_z w64) c.nanometres.ensures ∙ plain_back _ (omega (arith, c.before.before.before.before.before.requires.1))
+wire-back : (c : tie.After-nanometres) → to_z w64 c.nanometres.result ≡ pos c.args.wire.0
+wire-back c = ap (to_z w64) c.nanometres.ensures ∙ plain_back _ (omega (arith, c.requires.1))
 
 sinks-back : (c : tie.Start) → to_z w64 c.args.n ≡ pos c.args.n
 sinks-back c = plain_back c.args.n (omega (arith, c.requires.2))
 
 -- each line's length, and that it is short
-abbrev from1 : tie.After-line1-length → tie.Start
+abbrev from1 : tie.After-line1_length-first → tie.Start
 from1 c = c.before.before.before
 
-slack_is : (c : tie.After-line1-length) → (c.line1-length.result ≡ length (line_text slack_key ((from1 c).args.slack.0 ∷ []))) × (c.line1-length.result ≤ 24)
+slack_is : (c : tie.After-line1_length-first) → (c.line1_length-first.result ≡ length (line_text slack_key ((from1 c).args.slack.0 ∷ []))) × (c.line1_length-first.result ≤ 24)
 slack_is c =
-    let e = rw (slack-back c.before) at c.line1-length.ensures in
+    let e = rw (slack-back c.before) at c.line1_length-first.ensures in
     (e, omega (arith, e, line1_short slack_key (from1 c).args.slack.0 (slack-writable (from1 c))))
 
-abbrev from2 : tie.After-line1-length2 → tie.Start
+abbrev from2 : tie.After-line1_length-second → tie.Start
 from2 c = c.before.before.before.before.before.before
 
-wire_is : (c : tie.After-line1-length2) → (c.line1-length2.result ≡ length (line_text wire_key (pos (from2 c).args.wire.0 ∷ []))) × (c.line1-length2.result ≤ 23)
+wire_is : (c : tie.After-line1_length-second) → (c.line1_length-second.result ≡ length (line_text wire_key (pos (from2 c).args.wire.0 ∷ []))) × (c.line1_length-second.result ≤ 23)
 wire_is c =
-    let e = rw (wire-back c.before) at c.line1-length2.ensures in
+    let e = rw (wire-back c.before) at c.line1_length-second.ensures in
     (e, omega (arith, e, line1_short wire_key (pos (from2 c).args.wire.0) (omega (arith, (from2 c).requires.1))))
 
-abbrev from3 : tie.After-line1-length3 → tie.Start
+abbrev from3 : tie.After-line1_length → tie.Start
 from3 c = c.before.before.before.before.before.before.before.before
 
-sinks-is : (c : tie.After-line1-length3) → (c.line1-length3.result ≡ length (line_text sinks_key (pos (from3 c).args.n ∷ []))) × (c.line1-length3.result ≤ 24)
+sinks-is : (c : tie.After-line1_length) → (c.line1_length.result ≡ length (line_text sinks_key (pos (from3 c).args.n ∷ []))) × (c.line1_length.result ≤ 24)
 sinks-is c =
-    let e = rw (sinks-back (from3 c)) at c.line1-length3.ensures in
+    let e = rw (sinks-back (from3 c)) at c.line1_length.ensures in
     (e, omega (arith, e, line1_short sinks_key (pos (from3 c).args.n) (omega (arith, (from3 c).requires.2))))
 
-slice-aggregate-line1-length : tie.Need-slice-aggregate-line1-length
-slice-aggregate-line1-length c = search rules
-
 attoseconds-requires : tie.Need-attoseconds-requires
-attoseconds-requires c κs = search rules
+attoseconds-requires c = search rules
 
-line1-length-requires : tie.Need-line1-length-requires
-line1-length-requires c κs = rw (slack-back c) (slack-writable c.before.before)
-
-slice-aggregate-line1-length-2 : tie.Need-slice-aggregate-line1-length-2
-slice-aggregate-line1-length-2 c = search rules
+line1_length-first-requires : tie.Need-line1_length-first-requires
+line1_length-first-requires c κs = search rules
 
 nanometres-requires : tie.Need-nanometres-requires
-nanometres-requires c κs = search rules
+nanometres-requires c κs = rw (slack-back c.before.before.before) (slack-writable c.before.before.before.before.before.before)
 
-cast-line1-length : tie.Need-overflow-cast-line1-length
-cast-line1-length c = search rules
+overflow_cast-nanometres : tie.Need-overflow_cast-nanometres
+overflow_cast-nanometres c = search rules
 
-line1-length-requires-2 : tie.Need-line1-length-requires-2
-line1-length-requires-2 c κs = rw (wire-back c) (omega (arith, c.before.before.before.before.before.requires.1))
+line1_length-second-requires : tie.Need-line1_length-second-requires
+line1_length-second-requires c κs = search rules
 
-add-result : tie.Need-overflow-add-result
-add-result c = omega (arith, (slack_is c.before.before.before).1, (wire_is c).1)
+overflow_add-result : tie.Need-overflow_add-result
+overflow_add-result c = search rules
 
-slice-aggregate-line1-length-3 : tie.Need-slice-aggregate-line1-length-3
-slice-aggregate-line1-length-3 c = search rules
+overflow_cast-n : tie.Need-overflow_cast-n
+overflow_cast-n c κs = rw (wire-back c.before.before.before) (omega (arith, c.requires.1))
 
-cast-line1-length-2 : tie.Need-overflow-cast-line1-length-2
-cast-line1-length-2 c = search rules
+line1_length-requires : tie.Need-line1_length-requires
+line1_length-requires c = omega (arith, (slack_is c.before.before.before.before.before.before).1, (wire_is c.before.before).1)
+
+overflow_add-result-2 : tie.Need-overflow_add-result-2
+overflow_add-result-2 c = search rules
+
+returns : tie.Need-returns
+returns c = search rules
 
 line1-length-requires-3 : tie.Need-line1-length-requires-3
 line1-length-requires-3 c κs =
-    let st = c.before.before.before.before.before.before.before in
+    let st = c in
     rw (sinks-back st) (omega (arith, st.requires.2))
 
 add-result-2 : tie.Need-overflow-add-result-2
@@ -101,20 +101,20 @@ returns c =
     let a = (from3 c).args in
     omega (arith, (slack_is c.before.before.before.before.before).0, (wire_is c.before.before).0, (sinks-is c).0, head_parts a.slack.0 a.wire.0 a.n)
 
-pub head-length-spec : {M : Type 1} → statement M
-head-length-spec =
+pub head_length_spec : {M : Type 1} → statement M
+head_length_spec =
     tie.close
     (tie.spec
-    slice-aggregate-line1-length
     attoseconds-requires
-    line1-length-requires
-    slice-aggregate-line1-length-2
+    line1_length-first-requires
     nanometres-requires
-    cast-line1-length
-    line1-length-requires-2
-    add-result
-    slice-aggregate-line1-length-3
-    cast-line1-length-2
+    overflow_cast-nanometres
+    line1_length-second-requires
+    overflow_add-result
+    overflow_cast-n
+    line1_length-requires
+    overflow_add-result-2
+    returns
     line1-length-requires-3
     add-result-2
     returns)

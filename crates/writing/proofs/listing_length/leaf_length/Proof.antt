@@ -15,42 +15,42 @@ inside c = omega (arith, c.requires.0.some)
 small : (c : tie.Start) → get_or c.args.parents.now c.args.k 0 < 1024
 small c = parent_small c.args.n c.args.parents.now c.requires.0 c.args.k c.requires.1 (inside c)
 
-slice-aggregate-line2-length : tie.Need-slice-aggregate-line2-length
-slice-aggregate-line2-length c = search rules
+overflow_cast-k : tie.Need-overflow_cast-k
+overflow_cast-k c = search rules
 
-cast-line2-length : tie.Need-overflow-cast-line2-length
-cast-line2-length c = search rules
+offset_bounds-parents-k : tie.Need-offset_bounds-parents-k
+offset_bounds-parents-k c = search rules
 
-mul-line2-length : tie.Need-overflow-mul-line2-length
-mul-line2-length c = search rules
+bounds-parents-k : tie.Need-bounds-parents-k
+bounds-parents-k c = search rules
 
-shared-slice-read-line2-length : tie.Need-shared-slice-read-line2-length
-shared-slice-read-line2-length c = search rules
+overflow_cast-parents : tie.Need-overflow_cast-parents
+overflow_cast-parents c = search rules
 
-cast-line2-length-2 : tie.Need-overflow-cast-line2-length-2
-cast-line2-length-2 c = record { sfits = omega (arith, small c.before.before.before) }
+line2_length-requires : tie.Need-line2_length-requires
+line2_length-requires c = record { sfits = omega (arith, small c.before.before.before.before) }
 
-line2-length-requires : tie.Need-line2-length-requires
-line2-length-requires c κs =
-    let st = c.before.before.before in
+returns : tie.Need-returns
+returns c κs =
+    let st = c in
     let a = st.args in
-    (natural_writable a.k (omega (arith, st.requires.0.few)), natural_writable (get_or a.parents.now a.k 0) (omega (arith, small st)))
+    (natural_writable a.k (omega (arith, st.requires.0.few)), natural_writable (get_or a.parents.now a.k 0) (omega (arith, small st.before.before.before.before.before)))
 
 returns : tie.Need-returns
 returns c =
-    let st = c.before.before.before.before in
+    let st = c in
     let a = st.args in
     let line = leaf_is a.n a.parents.now st.requires.0 a.k st.requires.1 (inside st) in
-    subst (λ (s : List ℕ). c.line2-length.result ≡ length s) line c.line2-length.ensures
+    subst (λ (s : List ℕ). c.line2_length.result ≡ length s) line c.line2_length.ensures
 
-pub leaf-length-spec : {M : Type 1} → statement M
-leaf-length-spec =
+pub leaf_length_spec : {M : Type 1} → statement M
+leaf_length_spec =
     tie.close
     (tie.spec
-    slice-aggregate-line2-length
-    cast-line2-length
-    mul-line2-length
-    shared-slice-read-line2-length
-    cast-line2-length-2
-    line2-length-requires
+    overflow_cast-k
+    offset_bounds-parents-k
+    bounds-parents-k
+    overflow_cast-parents
+    line2_length-requires
+    returns
     returns)

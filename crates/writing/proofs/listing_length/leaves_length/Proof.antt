@@ -7,46 +7,46 @@ use Rattle.formats.proofs.Laws.Listings.ListingLengths.{Counting, counting_start
 use Rattle.writing.proofs.listing_length.leaves_length.Statement.{statement}
 use Rattle.writing.proofs.listing_length.leaves_length.Tie as tie
 
-abbrev invariant-loop : tie.invariant-loop
-invariant-loop n parents counted₀ k₀ counted k = Counting (leaf_text (parents_of n parents)) 1 n k counted
+abbrev invariant-loop-k : tie.invariant-loop-k
+invariant-loop-k n parents counted₀ k₀ counted k = Counting (leaf_text (parents_of n parents)) 1 n k counted
 
-abbrev decreases-loop : tie.decreases-loop
-decreases-loop n parents counted₀ k₀ counted k = suc n - k
+abbrev decreases-loop-k : tie.decreases-loop-k
+decreases-loop-k n parents counted₀ k₀ counted k = suc n - k
 
-loop-holds : tie.Need-loop-init invariant-loop decreases-loop
-loop-holds c = counting_starts _ _ _
+loop-k-init : tie.Need-loop-k-init invariant-loop-k decreases-loop-k
+loop-k-init c = counting_starts _ _ _
 
-leaf-length-requires : tie.Need-leaf-length-requires invariant-loop decreases-loop
-leaf-length-requires c κs = (c.before.before.before.requires.0, c.before.loop.invariant.from, c.loop-test.true)
+leaf_length-counted-requires : tie.Need-leaf_length-counted-requires invariant-loop-k decreases-loop-k
+leaf_length-counted-requires c κs = (c.requires.0, c.loop-k.invariant.from, c.loop-k-test.true)
 
-add-counted : tie.Need-overflow-add-counted invariant-loop decreases-loop
-add-counted c =
-    let st = c.before.before.before.before in
-    let w = c.before.before.loop in
-    omega (arith, c.leaf-length.ensures, line_counts (leaf_text (parents_of st.args.n st.args.parents.now)) 1 st.args.n _ _ w.invariant (omega arith), st.requires.1)
+overflow_add-counted : tie.Need-overflow_add-counted invariant-loop-k decreases-loop-k
+overflow_add-counted c =
+    let st = c in
+    let w = c.loop-k in
+    omega (arith, c.leaf_length-counted.ensures, line_counts (leaf_text (parents_of st.args.n st.args.parents.now)) 1 st.args.n _ _ w.invariant (omega arith), st.requires.1)
 
-add-k : tie.Need-overflow-add-k invariant-loop decreases-loop
-add-k c = omega (arith, c.before.before.before.before.requires.0.few)
+overflow_add-k : tie.Need-overflow_add-k invariant-loop-k decreases-loop-k
+overflow_add-k c = omega (arith, c.requires.0.few)
 
-loop-less : tie.Need-loop-smaller invariant-loop decreases-loop
-loop-less c = omega arith
+loop-k-smaller : tie.Need-loop-k-smaller invariant-loop-k decreases-loop-k
+loop-k-smaller c = omega arith
 
-loop-again : tie.Need-loop-preserved invariant-loop decreases-loop
-loop-again c = rw c.leaf-length.ensures (counting_more _ _ _ _ _ c.before.before.loop.invariant (omega arith))
+loop-k-preserved : tie.Need-loop-k-preserved invariant-loop-k decreases-loop-k
+loop-k-preserved c = rw c.leaf_length-counted.ensures (counting_more _ _ _ _ _ c.loop-k.invariant (omega arith))
 
-returns : tie.Need-returns invariant-loop decreases-loop
-returns c = counting_ends _ _ _ _ _ c.before.loop.invariant (omega arith)
+returns : tie.Need-returns invariant-loop-k decreases-loop-k
+returns c = counting_ends _ _ _ _ _ c.loop-k.invariant (omega arith)
 
-pub leaves-length-spec : {M : Type 1} → statement M
-leaves-length-spec =
+pub leaves_length_spec : {M : Type 1} → statement M
+leaves_length_spec =
     tie.close
     (tie.spec
-    invariant-loop
-    decreases-loop
-    loop-holds
-    leaf-length-requires
-    add-counted
-    add-k
-    loop-less
-    loop-again
+    invariant-loop-k
+    decreases-loop-k
+    loop-k-init
+    leaf_length-counted-requires
+    overflow_add-counted
+    overflow_add-k
+    loop-k-smaller
+    loop-k-preserved
     returns)

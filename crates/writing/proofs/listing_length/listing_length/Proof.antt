@@ -24,38 +24,38 @@ parents_in_lem c =
     let a = c.args in
     listed_parents a.n a.parents.now a.xs.now a.ys.now a.slack.0 a.wire.0 c.requires.0 c.requires.1.0
 
-head-length-requires : tie.Need-head-length-requires
-head-length-requires c κs = search rules
+head_length-head-requires : tie.Need-head_length-head-requires
+head_length-head-requires c κs = search rules
 
-leaves-length-requires : tie.Need-leaves-length-requires
-leaves-length-requires c κs =
-    let st = c.before.before in
-    (parents_in_lem st, omega (arith, short st))
+leaves_length-leaves-requires : tie.Need-leaves_length-leaves-requires
+leaves_length-leaves-requires c κs =
+    let st = c in
+    (parents_in_lem st.before.before, omega (arith, short st.before.before))
 
-add-result : tie.Need-overflow-add-result
-add-result c = omega (arith, c.before.head-length.ensures, c.leaves-length.ensures, short c.before.before.before)
+overflow_add-result : tie.Need-overflow_add-result
+overflow_add-result c = omega (arith, c.head_length-head.ensures, c.leaves_length-leaves.ensures, short c.before.before.before)
 
-nodes-length-requires : tie.Need-nodes-length-requires
-nodes-length-requires c κs =
-    let st = c.before.before.before in
+nodes_length-requires : tie.Need-nodes_length-requires
+nodes_length-requires c κs =
+    let st = c in
     let a = st.args in
-    ((parents_in_lem st, st.requires.1), (listed_points a.n a.parents.now a.xs.now a.ys.now a.slack.0 a.wire.0 st.requires.0, omega (arith, short st)))
+    ((parents_in_lem st.before.before.before, st.requires.1), (listed_points a.n a.parents.now a.xs.now a.ys.now a.slack.0 a.wire.0 st.requires.0, omega (arith, short st.before.before.before)))
 
-add-result-2 : tie.Need-overflow-add-result-2
-add-result-2 c = omega (arith, c.before.before.head-length.ensures, c.before.leaves-length.ensures, c.nodes-length.ensures, short c.before.before.before.before)
+overflow_add-result-2 : tie.Need-overflow_add-result-2
+overflow_add-result-2 c = omega (arith, c.head_length-head.ensures, c.leaves_length-leaves.ensures, c.nodes_length.ensures, short c.before.before.before.before)
 
 returns : tie.Need-returns
 returns c =
-    let st = c.before.before.before.before in
-    omega (arith, c.before.before.head-length.ensures, c.before.leaves-length.ensures, c.nodes-length.ensures, listing_parts st.args.n (listing st))
+    let st = c in
+    omega (arith, c.head_length-head.ensures, c.leaves_length-leaves.ensures, c.nodes_length.ensures, listing_parts st.args.n (listing st.before.before.before.before))
 
-pub listing-length-spec : {M : Type 1} → statement M
-listing-length-spec =
+pub listing_length_spec : {M : Type 1} → statement M
+listing_length_spec =
     tie.close
     (tie.spec
-    head-length-requires
-    leaves-length-requires
-    add-result
-    nodes-length-requires
-    add-result-2
+    head_length-head-requires
+    leaves_length-leaves-requires
+    overflow_add-result
+    nodes_length-requires
+    overflow_add-result-2
     returns)

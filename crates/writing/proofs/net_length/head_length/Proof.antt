@@ -9,13 +9,13 @@ use borrow.Author.Rules.{rules}
 use Rattle.writing.proofs.net_length.head_length.Statement.{statement}
 use Rattle.writing.proofs.net_length.head_length.Tie as tie
 
-abbrev start : tie.After-line1-length3 → tie.Start
+abbrev start : tie.After-line1_length-fifth → tie.Start
 start c = c.before.before.before.before.before.before.before.before.before.before.before.before.before.before.before.before.before
 
 short : (c : tie.Start) → length (net_head_text c.args.header c.args.root c.args.n) ≤ 154
 short c = head_short c.args.header c.args.root c.args.n c.requires
 
-sum_is : (c : tie.After-line1-length3) → (c.before.before.before.before.before.before.before.before.before.before.line2-length.result + c.before.before.before.before.before.before.before.line1-length.result + c.before.before.before.before.before.line2-length2.result + c.before.before.line1-length2.result + c.line1-length3.result) ≡ length (net_head_text (start c).args.header (start c).args.root (start c).args.n)
+sum_is : (c : tie.After-line1_length-fifth) → (c.line2_length-first.result + c.line1_length-second.result + c.line2_length-third.result + c.line1_length-fourth.result + c.line1_length-fifth.result) ≡ length (net_head_text (start c).args.header (start c).args.root (start c).args.n)
 sum_is c =
     let st = start c in
     let h = st.args.header in
@@ -23,73 +23,73 @@ sum_is c =
     let n = st.args.n in
     omega (
       arith,
-      c.before.before.before.before.before.before.before.before.before.before.line2-length.ensures ∙ ap length (root_line_lem h root n st.pre),
-      c.before.before.before.before.before.before.before.line1-length.ensures ∙ ap length (branch_line_lem h root n st.pre _ c.before.before.before.before.before.before.before.before.attoseconds.ensures),
-      c.before.before.before.before.before.line2-length2.ensures ∙ ap length (wire_line_lem h root n st.pre _ _ c.before.before.before.before.before.before.before.before.before.before.before.before.before.before.before.attoseconds-per-nanometre.ensures c.before.before.before.before.before.before.before.before.before.before.before.before.before.before.attoseconds-per-nanometre2.ensures),
-      c.before.before.line1-length2.ensures ∙ ap length (need_line_lem h root n st.pre _ c.before.before.before.attoseconds2.ensures),
-      c.line1-length3.ensures ∙ ap length (count_line_lem h root n st.pre),
+      c.line2_length-first.ensures ∙ ap length (root_line_lem h root n st.pre),
+      c.line1_length-second.ensures ∙ ap length (branch_line_lem h root n st.pre _ c.attoseconds.ensures),
+      c.line2_length-third.ensures ∙ ap length (wire_line_lem h root n st.pre _ _ c.attoseconds_per_nanometre-horizontal.ensures c.attoseconds_per_nanometre-vertical.ensures),
+      c.line1_length-fourth.ensures ∙ ap length (need_line_lem h root n st.pre _ c.attoseconds-2.ensures),
+      c.line1_length-fifth.ensures ∙ ap length (count_line_lem h root n st.pre),
       head_parts h root n,
     )
 
-attoseconds-per-nanometre-requires : tie.Need-attoseconds-per-nanometre-requires
-attoseconds-per-nanometre-requires c κs = search rules
+attoseconds_per_nanometre-horizontal-requires : tie.Need-attoseconds_per_nanometre-horizontal-requires
+attoseconds_per_nanometre-horizontal-requires c κs = search rules
 
-cast-horizontal : tie.Need-overflow-cast-horizontal
-cast-horizontal c = search rules
+overflow_cast-horizontal : tie.Need-overflow_cast-horizontal
+overflow_cast-horizontal c = search rules
 
-attoseconds-per-nanometre-requires-2 : tie.Need-attoseconds-per-nanometre-requires-2
-attoseconds-per-nanometre-requires-2 c κs = search rules
+attoseconds_per_nanometre-vertical-requires : tie.Need-attoseconds_per_nanometre-vertical-requires
+attoseconds_per_nanometre-vertical-requires c κs = search rules
 
-cast-vertical : tie.Need-overflow-cast-vertical
-cast-vertical c = search rules
+overflow_cast-vertical : tie.Need-overflow_cast-vertical
+overflow_cast-vertical c = search rules
 
-slice-aggregate-line2-length : tie.Need-slice-aggregate-line2-length
-slice-aggregate-line2-length c = search rules
-
-line2-length-requires : tie.Need-line2-length-requires
-line2-length-requires c κs =
-    let st = c.before.before.before.before.before.before in
-    root_writable st.args.header st.args.root st.args.n st.requires
-
-slice-aggregate-line1-length : tie.Need-slice-aggregate-line1-length
-slice-aggregate-line1-length c = search rules
+line2_length-first-requires : tie.Need-line2_length-first-requires
+line2_length-first-requires c = search rules
 
 attoseconds-requires : tie.Need-attoseconds-requires
-attoseconds-requires c κs = search rules
+attoseconds-requires c κs =
+    let st = c in
+    root_writable st.args.header st.args.root st.args.n st.requires
 
-line1-length-requires : tie.Need-line1-length-requires
-line1-length-requires c κs =
-    let st = c.before.before.before.before.before.before.before.before.before in
-    branch_writable st.args.header st.args.root st.args.n st.requires _ c.attoseconds.ensures
+line1_length-second-requires : tie.Need-line1_length-second-requires
+line1_length-second-requires c = search rules
 
-slice-aggregate-line2-length-2 : tie.Need-slice-aggregate-line2-length-2
-slice-aggregate-line2-length-2 c = search rules
-
-line2-length-requires-2 : tie.Need-line2-length-requires-2
-line2-length-requires-2 c κs =
-    let st = c.before.before.before.before.before.before.before.before.before.before.before in
-    wire_writable st.args.header st.args.root st.args.n st.requires _ _ c.before.before.before.before.before.before.before.before.before.attoseconds-per-nanometre.ensures c.before.before.before.before.before.before.before.before.attoseconds-per-nanometre2.ensures
-
-slice-aggregate-line1-length-2 : tie.Need-slice-aggregate-line1-length-2
-slice-aggregate-line1-length-2 c = search rules
+line2_length-third-requires : tie.Need-line2_length-third-requires
+line2_length-third-requires c κs = search rules
 
 attoseconds-requires-2 : tie.Need-attoseconds-requires-2
-attoseconds-requires-2 c κs = search rules
+attoseconds-requires-2 c κs =
+    let st = c in
+    branch_writable st.args.header st.args.root st.args.n st.requires _ c.attoseconds.ensures
 
-line1-length-requires-2 : tie.Need-line1-length-requires-2
-line1-length-requires-2 c κs =
-    let st = c.before.before.before.before.before.before.before.before.before.before.before.before.before.before in
-    need_writable st.args.header st.args.root st.args.n st.requires _ c.attoseconds2.ensures
+line1_length-fourth-requires : tie.Need-line1_length-fourth-requires
+line1_length-fourth-requires c = search rules
 
-slice-aggregate-line1-length-3 : tie.Need-slice-aggregate-line1-length-3
-slice-aggregate-line1-length-3 c = search rules
+overflow_cast-n : tie.Need-overflow_cast-n
+overflow_cast-n c κs =
+    let st = c in
+    wire_writable st.args.header st.args.root st.args.n st.requires _ _ c.attoseconds_per_nanometre-horizontal.ensures c.attoseconds_per_nanometre-vertical.ensures
 
-cast-line1-length : tie.Need-overflow-cast-line1-length
-cast-line1-length c = search rules
+line1_length-fifth-requires : tie.Need-line1_length-fifth-requires
+line1_length-fifth-requires c = search rules
 
-line1-length-requires-3 : tie.Need-line1-length-requires-3
-line1-length-requires-3 c κs =
-    let st = c.before.before.before.before.before.before.before.before.before.before.before.before.before.before.before.before in
+overflow_add-result : tie.Need-overflow_add-result
+overflow_add-result c κs = search rules
+
+overflow_add-result-2 : tie.Need-overflow_add-result-2
+overflow_add-result-2 c κs =
+    let st = c in
+    need_writable st.args.header st.args.root st.args.n st.requires _ c.attoseconds-2.ensures
+
+overflow_add-result-3 : tie.Need-overflow_add-result-3
+overflow_add-result-3 c = search rules
+
+overflow_add-result-4 : tie.Need-overflow_add-result-4
+overflow_add-result-4 c = search rules
+
+returns : tie.Need-returns
+returns c κs =
+    let st = c in
     count_writable st.args.header st.args.root st.args.n st.requires
 
 add-result-4 : tie.Need-overflow-add-result-4
@@ -107,27 +107,27 @@ add-result-3 c = omega (arith, add-result-4 c)
 returns : tie.Need-returns
 returns c = sum_is c
 
-pub head-length-spec : {M : Type 1} → statement M
-head-length-spec =
+pub head_length_spec : {M : Type 1} → statement M
+head_length_spec =
     tie.close
     (tie.spec
-    attoseconds-per-nanometre-requires
-    cast-horizontal
-    attoseconds-per-nanometre-requires-2
-    cast-vertical
-    slice-aggregate-line2-length
-    line2-length-requires
-    slice-aggregate-line1-length
+    attoseconds_per_nanometre-horizontal-requires
+    overflow_cast-horizontal
+    attoseconds_per_nanometre-vertical-requires
+    overflow_cast-vertical
+    line2_length-first-requires
     attoseconds-requires
-    line1-length-requires
-    slice-aggregate-line2-length-2
-    line2-length-requires-2
-    slice-aggregate-line1-length-2
+    line1_length-second-requires
+    line2_length-third-requires
     attoseconds-requires-2
-    line1-length-requires-2
-    slice-aggregate-line1-length-3
-    cast-line1-length
-    line1-length-requires-3
+    line1_length-fourth-requires
+    overflow_cast-n
+    line1_length-fifth-requires
+    overflow_add-result
+    overflow_add-result-2
+    overflow_add-result-3
+    overflow_add-result-4
+    returns
     add-result
     add-result-2
     add-result-3

@@ -22,48 +22,48 @@ short c =
     let a = c.args in
     parts_short a.header a.n a.xs.now a.ys.now a.required.now c.requires.0 a.weights.now c.requires.1
 
-abbrev from : tie.After-head-length → tie.Start
+abbrev from : tie.After-head_length-head → tie.Start
 from c = c.before.before.before
 
-head-is : (c : tie.After-head-length) → c.head-length.result ≡ length (head_part (from c).args.header (from c).args.n (from c).args.xs.now (from c).args.ys.now)
+head-is : (c : tie.After-head_length-head) → c.head_length-head.result ≡ length (head_part (from c).args.header (from c).args.n (from c).args.xs.now (from c).args.ys.now)
 head-is c =
     let a = (from c).args in
-    c.head-length.ensures ∙ ap (λ (p : Point). length (net_head_text a.header p a.n)) (root (from c))
+    c.head_length-head.ensures ∙ ap (λ (p : Point). length (net_head_text a.header p a.n)) (root (from c))
 
-shared-slice-copy-out-t10 : tie.Need-shared-slice-copy-out-t10
-shared-slice-copy-out-t10 c = search rules
+bounds-xs-0 : tie.Need-bounds-xs-0
+bounds-xs-0 c = search rules
 
-shared-slice-copy-out-t12 : tie.Need-shared-slice-copy-out-t12
-shared-slice-copy-out-t12 c = search rules
+bounds-ys-0 : tie.Need-bounds-ys-0
+bounds-ys-0 c = search rules
 
-head-length-requires : tie.Need-head-length-requires
-head-length-requires c κs =
-    let st = c.before.before in
+head_length-head-requires : tie.Need-head_length-head-requires
+head_length-head-requires c κs =
+    let st = c in
     let a = st.args in
-    subst (λ (p : Point). HeadInRange a.header p a.n) (sym (root st)) (head_in_range a.header a.n a.xs.now a.ys.now a.required.now st.requires.0)
+    subst (λ (p : Point). HeadInRange a.header p a.n) (sym (root st.before.before)) (head_in_range a.header a.n a.xs.now a.ys.now a.required.now st.requires.0)
 
-sinks-length-requires : tie.Need-sinks-length-requires
-sinks-length-requires c κs =
-    let st = c.before.before.before in
+sinks_length-requires : tie.Need-sinks_length-requires
+sinks_length-requires c κs =
+    let st = c in
     let a = st.args in
-    (sinks_in_range a.header a.n a.xs.now a.ys.now a.required.now st.requires.0 a.weights.now st.requires.1, omega (arith, short st))
+    (sinks_in_range a.header a.n a.xs.now a.ys.now a.required.now st.requires.0 a.weights.now st.requires.1, omega (arith, short st.before.before.before))
 
-add-result : tie.Need-overflow-add-result
-add-result c = omega (arith, head-is c.before, c.sinks-length.ensures, short c.before.before.before.before)
+overflow_add-result : tie.Need-overflow_add-result
+overflow_add-result c = omega (arith, head-is c.before, c.sinks_length.ensures, short c.before.before.before.before)
 
 returns : tie.Need-returns
 returns c =
-    let st = c.before.before.before.before in
+    let st = c in
     let a = st.args in
-    omega (arith, head-is c.before, c.sinks-length.ensures, net_parts a.header a.n a.xs.now a.ys.now a.required.now st.requires.0 a.weights.now)
+    omega (arith, head-is c.before, c.sinks_length.ensures, net_parts a.header a.n a.xs.now a.ys.now a.required.now st.requires.0 a.weights.now)
 
-pub net-length-spec : {M : Type 1} → statement M
-net-length-spec =
+pub net_length_spec : {M : Type 1} → statement M
+net_length_spec =
     tie.close
     (tie.spec
-    shared-slice-copy-out-t10
-    shared-slice-copy-out-t12
-    head-length-requires
-    sinks-length-requires
-    add-result
+    bounds-xs-0
+    bounds-ys-0
+    head_length-head-requires
+    sinks_length-requires
+    overflow_add-result
     returns)

@@ -8,58 +8,58 @@ use borrow.Author.Rules.{rules}
 use Rattle.writing.proofs.net_length.sink_length.Statement.{statement}
 use Rattle.writing.proofs.net_length.sink_length.Tie as tie
 
-slice-aggregate-line4-length : tie.Need-slice-aggregate-line4-length
-slice-aggregate-line4-length c = search rules
+offset_bounds-xs-k : tie.Need-offset_bounds-xs-k
+offset_bounds-xs-k c = search rules
 
-mul-line4-length : tie.Need-overflow-mul-line4-length
-mul-line4-length c = search rules
+bounds-xs-k : tie.Need-bounds-xs-k
+bounds-xs-k c = search rules
 
-shared-slice-copy-out-line4-length : tie.Need-shared-slice-copy-out-line4-length
-shared-slice-copy-out-line4-length c = search rules
+offset_bounds-ys-k : tie.Need-offset_bounds-ys-k
+offset_bounds-ys-k c = search rules
 
-mul-line4-length-2 : tie.Need-overflow-mul-line4-length-2
-mul-line4-length-2 c = search rules
+bounds-ys-k : tie.Need-bounds-ys-k
+bounds-ys-k c = search rules
 
-shared-slice-copy-out-line4-length-2 : tie.Need-shared-slice-copy-out-line4-length-2
-shared-slice-copy-out-line4-length-2 c = search rules
+offset_bounds-required-k : tie.Need-offset_bounds-required-k
+offset_bounds-required-k c = search rules
 
-mul-line4-length-3 : tie.Need-overflow-mul-line4-length-3
-mul-line4-length-3 c = search rules
+bounds-required-k : tie.Need-bounds-required-k
+bounds-required-k c = search rules
 
-shared-slice-copy-out-line4-length-3 : tie.Need-shared-slice-copy-out-line4-length-3
-shared-slice-copy-out-line4-length-3 c = search rules
+offset_bounds-weights-k : tie.Need-offset_bounds-weights-k
+offset_bounds-weights-k c = search rules
 
-mul-line4-length-4 : tie.Need-overflow-mul-line4-length-4
-mul-line4-length-4 c = search rules
+bounds-weights-k : tie.Need-bounds-weights-k
+bounds-weights-k c = search rules
 
-shared-slice-copy-out-line4-length-4 : tie.Need-shared-slice-copy-out-line4-length-4
-shared-slice-copy-out-line4-length-4 c = search rules
+line4_length-requires : tie.Need-line4_length-requires
+line4_length-requires c = search rules
 
-line4-length-requires : tie.Need-line4-length-requires
-line4-length-requires c κs =
-    let st = c.before.before.before.before.before in
+returns : tie.Need-returns
+returns c κs =
+    let st = c in
     let a = st.args in
     sink_writable a.xs.now a.ys.now a.required.now a.weights.now a.k st.requires
 
 returns : tie.Need-returns
 returns c =
-    let st = c.before.before.before.before.before.before in
+    let st = c in
     let a = st.args in
     let line = sink_line_lem a.xs.now a.ys.now a.required.now a.weights.now a.k st.requires in
-    subst (λ (s : List ℕ). c.line4-length.result ≡ length s) line c.line4-length.ensures
+    subst (λ (s : List ℕ). c.line4_length.result ≡ length s) line c.line4_length.ensures
 
-pub sink-length-spec : {M : Type 1} → statement M
-sink-length-spec =
+pub sink_length_spec : {M : Type 1} → statement M
+sink_length_spec =
     tie.close
     (tie.spec
-    slice-aggregate-line4-length
-    mul-line4-length
-    shared-slice-copy-out-line4-length
-    mul-line4-length-2
-    shared-slice-copy-out-line4-length-2
-    mul-line4-length-3
-    shared-slice-copy-out-line4-length-3
-    mul-line4-length-4
-    shared-slice-copy-out-line4-length-4
-    line4-length-requires
+    offset_bounds-xs-k
+    bounds-xs-k
+    offset_bounds-ys-k
+    bounds-ys-k
+    offset_bounds-required-k
+    bounds-required-k
+    offset_bounds-weights-k
+    bounds-weights-k
+    line4_length-requires
+    returns
     returns)

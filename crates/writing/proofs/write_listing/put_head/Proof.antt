@@ -37,65 +37,65 @@ front-room : (c : tie.Start) → 0 + length (slack_line c ++ wire_line c) ≤ le
 front-room c = fits_first c.args.out.now 0 (slack_line c ++ wire_line c) (sinksLine c) (room c)
 
 -- the numbers that are put
-slack-back : (c : tie.After-attoseconds) → rd c.attoseconds.result ≡ c.before.before.before.before.args.slack.0
-slack-back c = ap rd c.attoseconds.ensures ∙ within_back slack_limit _ (omega arith) c.before.before.before.before.requires.0.0
+slack-back : (c : tie.After-attoseconds) → rd c.attoseconds.result ≡ c.args.slack.0
+slack-back c = ap rd c.attoseconds.ensures ∙ within_back slack_limit _ (omega arith) c.requires.0.0
 
-wire-back : (c : tie.After-nanometres) → to_z w64 c.nanometres.result ≡ pos c.before.before.before.before.before.before.before.before.before.before.args.wire.0
-wire-back c = ap (to_z w64) c.nanometres.ensures ∙ plain_back _ (omega (arith, c.before.before.before.before.before.before.before.before.before.before.requires.0.1))
+wire-back : (c : tie.After-nanometres) → to_z w64 c.nanometres.result ≡ pos c.args.wire.0
+wire-back c = ap (to_z w64) c.nanometres.ensures ∙ plain_back _ (omega (arith, c.requires.0.1))
 
 sinks-back : (c : tie.Start) → to_z w64 c.args.n ≡ pos c.args.n
 sinks-back c = plain_back c.args.n (omega (arith, c.requires.0.2))
 
 -- the first line, and the first two
-abbrev from1 : tie.After-put-line1 → tie.Start
+abbrev from1 : tie.After-put_line1-first → tie.Start
 from1 c = c.before.before.before.before.before
 
-slack-put : (c : tie.After-put-line1) → Puts (from1 c).args.out.now 0 (slack_line (from1 c)) c.put-line1.result c.put-line1.new.0
-slack-put c = rw (slack-back c.before) at c.put-line1.ensures
+slack-put : (c : tie.After-put_line1-first) → Puts (from1 c).args.out.now 0 (slack_line (from1 c)) c.put_line1-first.result c.put_line1-first.new.out
+slack-put c = rw (slack-back c.before) at c.put_line1-first.ensures
 
-abbrev from2 : tie.After-put-line12 → tie.Start
+abbrev from2 : tie.After-put_line1-second → tie.Start
 from2 c = c.before.before.before.before.before.before.before.before.before.before.before
 
-front-put : (c : tie.After-put-line12) → Puts (from2 c).args.out.now 0 (slack_line (from2 c) ++ wire_line (from2 c)) c.put-line12.result c.put-line12.new.0
+front-put : (c : tie.After-put_line1-second) → Puts (from2 c).args.out.now 0 (slack_line (from2 c) ++ wire_line (from2 c)) c.put_line1-second.result c.put_line1-second.new.out
 front-put c =
     let st = from2 c in
-    let next = rw (wire-back c.before) at c.put-line12.ensures in
-    puts_both _ _ (slack_line st) (wire_line st) (front-room st) _ _ (slack-put c.before.before.before.before.before.before) _ _ next
-
-slice-aggregate-put-line1 : tie.Need-slice-aggregate-put-line1
-slice-aggregate-put-line1 c = search rules
+    let next = rw (wire-back c.before) at c.put_line1-second.ensures in
+    puts_both _ _ (slack_line st) (wire_line st) (front-room st) _ _ (slack-put c.before.before.before.before.before.before.before) _ _ next
 
 attoseconds-requires : tie.Need-attoseconds-requires
-attoseconds-requires c κs = search rules
+attoseconds-requires c = search rules
 
-put-line1-requires : tie.Need-put-line1-requires
-put-line1-requires c κs =
-    let st = c.before.before.before.before in
-    rw (slack-back c) (within_writable slack_limit _ (omega arith) st.requires.0.0, fits_first st.args.out.now 0 (slack_line st) (wire_line st) (front-room st))
-
-slice-aggregate-put-line1-2 : tie.Need-slice-aggregate-put-line1-2
-slice-aggregate-put-line1-2 c = search rules
+put_line1-first-requires : tie.Need-put_line1-first-requires
+put_line1-first-requires c κs = search rules
 
 nanometres-requires : tie.Need-nanometres-requires
-nanometres-requires c κs = search rules
+nanometres-requires c κs =
+    let st = c in
+    rw (slack-back c.before.before.before.before.before.before) (within_writable slack_limit _ (omega arith) st.requires.0.0, fits_first st.args.out.now 0 (slack_line st.before.before.before.before.before.before.before.before.before.before.before) (wire_line st.before.before.before.before.before.before.before.before.before.before.before) (front-room st.before.before.before.before.before.before.before.before.before.before.before))
 
-cast-put-line1 : tie.Need-overflow-cast-put-line1
-cast-put-line1 c = search rules
+overflow_cast-nanometres : tie.Need-overflow_cast-nanometres
+overflow_cast-nanometres c = search rules
 
-put-line1-requires-2 : tie.Need-put-line1-requires-2
-put-line1-requires-2 c κs =
-    let st = c.before.before.before.before.before.before.before.before.before.before in
-    rw (wire-back c) (omega (arith, st.requires.0.1), fits_next _ _ (slack_line st) (wire_line st) (front-room st) _ _ (slack-put c.before.before.before.before.before))
+put_line1-second-requires : tie.Need-put_line1-second-requires
+put_line1-second-requires c κs = search rules
 
-slice-aggregate-put-line1-3 : tie.Need-slice-aggregate-put-line1-3
-slice-aggregate-put-line1-3 c = search rules
+overflow_cast-n : tie.Need-overflow_cast-n
+overflow_cast-n c = search rules
 
-cast-put-line1-2 : tie.Need-overflow-cast-put-line1-2
-cast-put-line1-2 c = search rules
+put_line1-requires : tie.Need-put_line1-requires
+put_line1-requires c κs =
+    let st = c in
+    rw (wire-back c.before.before.before.before.before.before) (omega (arith, st.requires.0.1), fits_next _ _ (slack_line st.before.before.before.before.before.before.before.before.before.before.before.before.before.before.before.before.before.before) (wire_line st.before.before.before.before.before.before.before.before.before.before.before.before.before.before.before.before.before.before) (front-room st.before.before.before.before.before.before.before.before.before.before.before.before.before.before.before.before.before.before) _ _ (slack-put c.before.before.before.before.before.before.before.before.before.before.before.before))
+
+shape_of-out : tie.Need-shape_of-out
+shape_of-out c = search rules
+
+returns : tie.Need-returns
+returns c = search rules
 
 put-line1-requires-3 : tie.Need-put-line1-requires-3
 put-line1-requires-3 c κs =
-    let st = c.before.before.before.before.before.before.before.before.before.before.before.before.before.before.before in
+    let st = c in
     rw (sinks-back st) (omega (arith, st.requires.0.2), fits_next _ _ (slack_line st ++ wire_line st) (sinksLine st) (room st) _ _ (front-put c.before.before.before.before))
 
 same_length : tie.Need-same-length
@@ -103,23 +103,23 @@ same_length c = search rules
 
 returns : tie.Need-returns
 returns c =
-    let st = c.before.before.before.before.before.before.before.before.before.before.before.before.before.before.before.before.before.before in
-    let last = rw (sinks-back st) at c.before.before.put-line13.ensures in
+    let st = c in
+    let last = rw (sinks-back st) at c.put_line1.ensures in
     puts_both _ _ (slack_line st ++ wire_line st) (sinksLine st) (room st) _ _ (front-put c.before.before.before.before.before.before.before) _ _ last
 
-pub put-head-spec : {M : Type 1} → statement M
-put-head-spec =
+pub put_head_spec : {M : Type 1} → statement M
+put_head_spec =
     tie.close
     (tie.spec
-    slice-aggregate-put-line1
     attoseconds-requires
-    put-line1-requires
-    slice-aggregate-put-line1-2
+    put_line1-first-requires
     nanometres-requires
-    cast-put-line1
-    put-line1-requires-2
-    slice-aggregate-put-line1-3
-    cast-put-line1-2
+    overflow_cast-nanometres
+    put_line1-second-requires
+    overflow_cast-n
+    put_line1-requires
+    shape_of-out
+    returns
     put-line1-requires-3
     same_length
     returns)

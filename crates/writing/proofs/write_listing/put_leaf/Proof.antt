@@ -25,48 +25,48 @@ small c = parent_small c.args.n c.args.parents.now c.requires.0.0 c.args.k c.req
 line : (c : tie.Start) → line_text leaf_key (to_z w64 c.args.k ∷ (to_z w64 (get_or c.args.parents.now c.args.k 0) ∷ [])) ≡ leaf_text (parents_of c.args.n c.args.parents.now) c.args.k
 line c = leaf_is c.args.n c.args.parents.now c.requires.0.0 c.args.k c.requires.0.1 (inside c)
 
-slice-aggregate-put-line2 : tie.Need-slice-aggregate-put-line2
-slice-aggregate-put-line2 c = search rules
+overflow_cast-k : tie.Need-overflow_cast-k
+overflow_cast-k c = search rules
 
-cast-put-line2 : tie.Need-overflow-cast-put-line2
-cast-put-line2 c = search rules
+offset_bounds-parents-k : tie.Need-offset_bounds-parents-k
+offset_bounds-parents-k c = search rules
 
-mul-put-line2 : tie.Need-overflow-mul-put-line2
-mul-put-line2 c = search rules
+bounds-parents-k : tie.Need-bounds-parents-k
+bounds-parents-k c = search rules
 
-shared-slice-read-put-line2 : tie.Need-shared-slice-read-put-line2
-shared-slice-read-put-line2 c = search rules
+overflow_cast-parents : tie.Need-overflow_cast-parents
+overflow_cast-parents c = search rules
 
-cast-put-line2-2 : tie.Need-overflow-cast-put-line2-2
-cast-put-line2-2 c = record { sfits = omega (arith, small c.before.before.before.before.before) }
+put_line2-requires : tie.Need-put_line2-requires
+put_line2-requires c = record { sfits = omega (arith, small c.before.before.before.before.before.before) }
 
-put-line2-requires : tie.Need-put-line2-requires
-put-line2-requires c κs =
-    let st = c.before.before.before.before.before in
+shape_of-out : tie.Need-shape_of-out
+shape_of-out c κs =
+    let st = c in
     let a = st.args in (
       natural_writable a.k (omega (arith, st.requires.0.0.few)),
-      natural_writable (get_or a.parents.now a.k 0) (omega (arith, small st)),
-      subst (λ (s : List ℕ). a.at + length s ≤ length a.out.now) (sym (line st)) st.requires.1,
+      natural_writable (get_or a.parents.now a.k 0) (omega (arith, small st.before.before.before.before.before.before.before.before.before)),
+      subst (λ (s : List ℕ). a.at + length s ≤ length a.out.now) (sym (line st.before.before.before.before.before.before.before.before.before)) st.requires.1,
     )
 
-same_length : tie.Need-same-length
-same_length c = search rules
+returns : tie.Need-returns
+returns c = search rules
 
 returns : tie.Need-returns
 returns c =
-    let st = c.before.before.before.before.before.before.before.before in
+    let st = c in
     let a = st.args in
-    subst (λ (s : List ℕ). Puts a.out.now a.at s c.before.before.put-line2.result c.before.before.put-line2.new.0) (line st) c.before.before.put-line2.ensures
+    subst (λ (s : List ℕ). Puts a.out.now a.at s c.put_line2.result c.put_line2.new.out) (line st) c.put_line2.ensures
 
-pub put-leaf-spec : {M : Type 1} → statement M
-put-leaf-spec =
+pub put_leaf_spec : {M : Type 1} → statement M
+put_leaf_spec =
     tie.close
     (tie.spec
-    slice-aggregate-put-line2
-    cast-put-line2
-    mul-put-line2
-    shared-slice-read-put-line2
-    cast-put-line2-2
-    put-line2-requires
-    same_length
+    overflow_cast-k
+    offset_bounds-parents-k
+    bounds-parents-k
+    overflow_cast-parents
+    put_line2-requires
+    shape_of-out
+    returns
     returns)

@@ -7,50 +7,50 @@ use Rattle.formats.proofs.Laws.Listings.ListingWriting.{Putting, putting_starts,
 use Rattle.writing.proofs.write_listing.put_leaves.Statement.{statement}
 use Rattle.writing.proofs.write_listing.put_leaves.Tie as tie
 
-abbrev invariant-loop : tie.invariant-loop
-invariant-loop out₀ at n parents next₀ k₀ out next k = Putting (leaf_text (parents_of n parents)) 1 n out₀ at k next out
+abbrev invariant-loop-k : tie.invariant-loop-k
+invariant-loop-k out₀ at n parents next₀ k₀ out next k = Putting (leaf_text (parents_of n parents)) 1 n out₀ at k next out
 
-abbrev decreases-loop : tie.decreases-loop
-decreases-loop out₀ at n parents next₀ k₀ out next k = suc n - k
+abbrev decreases-loop-k : tie.decreases-loop-k
+decreases-loop-k out₀ at n parents next₀ k₀ out next k = suc n - k
 
-loop-holds : tie.Need-loop-init invariant-loop decreases-loop
-loop-holds c = putting_starts _ _ _ _ _
+loop-k-init : tie.Need-loop-k-init invariant-loop-k decreases-loop-k
+loop-k-init c = putting_starts _ _ _ _ _
 
-put-leaf-requires : tie.Need-put-leaf-requires invariant-loop decreases-loop
-put-leaf-requires c κs =
-    let st = c.before.before.before.before.before in
-    let w = c.before.before.loop in (
-      (st.requires.0, w.invariant.from, c.before.loop-test.true),
+put_leaf-next-requires : tie.Need-put_leaf-next-requires invariant-loop-k decreases-loop-k
+put_leaf-next-requires c κs =
+    let st = c in
+    let w = c.loop-k in (
+      (st.requires.0, w.invariant.from, c.loop-k-test.true),
       line_fits _ _ _ _ _ st.requires.1 _ _ _ w.invariant (omega arith),
     )
 
-add-k : tie.Need-overflow-add-k invariant-loop decreases-loop
-add-k c = omega (arith, c.before.before.before.before.before.before.before.before.requires.0.few)
+overflow_add-k : tie.Need-overflow_add-k invariant-loop-k decreases-loop-k
+overflow_add-k c = omega (arith, c.requires.0.few)
 
-loop-less : tie.Need-loop-smaller invariant-loop decreases-loop
-loop-less c = omega arith
+loop-k-smaller : tie.Need-loop-k-smaller invariant-loop-k decreases-loop-k
+loop-k-smaller c = omega arith
 
-loop-again : tie.Need-loop-preserved invariant-loop decreases-loop
-loop-again c =
-    let st = c.before.before.before.before.before.before.before.before in
-    putting_more _ _ _ _ _ st.requires.1 _ _ _ c.before.before.before.before.before.loop.invariant (omega arith) _ _ c.before.before.put-leaf.ensures
+loop-k-preserved : tie.Need-loop-k-preserved invariant-loop-k decreases-loop-k
+loop-k-preserved c =
+    let st = c in
+    putting_more _ _ _ _ _ st.requires.1 _ _ _ c.loop-k.invariant (omega arith) _ _ c.put_leaf-next.ensures
 
-same_length : tie.Need-same-length invariant-loop decreases-loop
-same_length c = c.before.loop.invariant.long
+shape_of-out : tie.Need-shape_of-out invariant-loop-k decreases-loop-k
+shape_of-out c = c.loop-k.invariant.long
 
-returns : tie.Need-returns invariant-loop decreases-loop
-returns c = putting_ends _ _ _ _ _ _ _ _ c.before.loop.invariant (omega arith)
+returns : tie.Need-returns invariant-loop-k decreases-loop-k
+returns c = putting_ends _ _ _ _ _ _ _ _ c.loop-k.invariant (omega arith)
 
-pub put-leaves-spec : {M : Type 1} → statement M
-put-leaves-spec =
+pub put_leaves_spec : {M : Type 1} → statement M
+put_leaves_spec =
     tie.close
     (tie.spec
-    invariant-loop
-    decreases-loop
-    loop-holds
-    put-leaf-requires
-    add-k
-    loop-less
-    loop-again
-    same_length
+    invariant-loop-k
+    decreases-loop-k
+    loop-k-init
+    put_leaf-next-requires
+    overflow_add-k
+    loop-k-smaller
+    loop-k-preserved
+    shape_of-out
     returns)

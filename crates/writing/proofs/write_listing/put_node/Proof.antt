@@ -35,67 +35,67 @@ line c =
     let a = c.args in
     node_is a.n a.parents.now c.requires.0.0 a.k (below c) c.requires.1.0.1 a.xs.now a.ys.now c.requires.1.0.0 c.requires.1.0.2
 
-slice-aggregate-put-line4 : tie.Need-slice-aggregate-put-line4
-slice-aggregate-put-line4 c = search rules
+overflow_cast-k : tie.Need-overflow_cast-k
+overflow_cast-k c = search rules
 
-cast-put-line4 : tie.Need-overflow-cast-put-line4
-cast-put-line4 c = search rules
+offset_bounds-parents-k : tie.Need-offset_bounds-parents-k
+offset_bounds-parents-k c = search rules
 
-mul-put-line4 : tie.Need-overflow-mul-put-line4
-mul-put-line4 c = search rules
+bounds-parents-k : tie.Need-bounds-parents-k
+bounds-parents-k c = search rules
 
-shared-slice-read-put-line4 : tie.Need-shared-slice-read-put-line4
-shared-slice-read-put-line4 c = search rules
+overflow_cast-parents : tie.Need-overflow_cast-parents
+overflow_cast-parents c = search rules
 
-cast-put-line4-2 : tie.Need-overflow-cast-put-line4-2
-cast-put-line4-2 c = record { sfits = omega (arith, small c.before.before.before.before.before) }
+offset_bounds-xs-k : tie.Need-offset_bounds-xs-k
+offset_bounds-xs-k c = record { sfits = omega (arith, small c.before.before.before.before.before.before) }
 
-mul-put-line4-2 : tie.Need-overflow-mul-put-line4-2
-mul-put-line4-2 c = search rules
+bounds-xs-k : tie.Need-bounds-xs-k
+bounds-xs-k c = search rules
 
-shared-slice-copy-out-put-line4 : tie.Need-shared-slice-copy-out-put-line4
-shared-slice-copy-out-put-line4 c = search rules
+offset_bounds-ys-k : tie.Need-offset_bounds-ys-k
+offset_bounds-ys-k c = search rules
 
-mul-put-line4-3 : tie.Need-overflow-mul-put-line4-3
-mul-put-line4-3 c = search rules
+bounds-ys-k : tie.Need-bounds-ys-k
+bounds-ys-k c = search rules
 
-shared-slice-copy-out-put-line4-2 : tie.Need-shared-slice-copy-out-put-line4-2
-shared-slice-copy-out-put-line4-2 c = search rules
+put_line4-requires : tie.Need-put_line4-requires
+put_line4-requires c = search rules
 
-put-line4-requires : tie.Need-put-line4-requires
-put-line4-requires c κs =
-    let st = c.before.before.before.before.before.before.before in
+shape_of-out : tie.Need-shape_of-out
+shape_of-out c κs =
+    let st = c in
     let a = st.args in
     let w = st.requires.1.0.2 in (
       natural_writable a.k (omega (arith, st.requires.0.0.few)),
-      natural_writable (get_or a.parents.now a.k 0) (omega (arith, small st)),
+      natural_writable (get_or a.parents.now a.k 0) (omega (arith, small st.before.before.before.before.before.before.before.before.before.before.before)),
       rw (within_back position_limit _ (omega arith) w.0) (within_writable position_limit _ (omega arith) w.0),
       rw (within_back position_limit _ (omega arith) w.1) (within_writable position_limit _ (omega arith) w.1),
-      subst (λ (s : List ℕ). a.at + length s ≤ length a.out.now) (sym (line st)) st.requires.1.1,
+      subst (λ (s : List ℕ). a.at + length s ≤ length a.out.now) (sym (line st.before.before.before.before.before.before.before.before.before.before.before)) st.requires.1.1,
     )
 
-same_length : tie.Need-same-length
-same_length c = search rules
+returns : tie.Need-returns
+returns c = search rules
 
 returns : tie.Need-returns
 returns c =
-    let st = c.before.before.before.before.before.before.before.before.before.before in
+    let st = c in
     let a = st.args in
-    subst (λ (s : List ℕ). Puts a.out.now a.at s c.before.before.put-line4.result c.before.before.put-line4.new.0) (line st) c.before.before.put-line4.ensures
+    subst (λ (s : List ℕ). Puts a.out.now a.at s c.put_line4.result c.put_line4.new.out) (line st) c.put_line4.ensures
 
-pub put-node-spec : {M : Type 1} → statement M
-put-node-spec =
+pub put_node_spec : {M : Type 1} → statement M
+put_node_spec =
     tie.close
     (tie.spec
-    slice-aggregate-put-line4
-    cast-put-line4
-    mul-put-line4
-    shared-slice-read-put-line4
-    cast-put-line4-2
-    mul-put-line4-2
-    shared-slice-copy-out-put-line4
-    mul-put-line4-3
-    shared-slice-copy-out-put-line4-2
-    put-line4-requires
-    same_length
+    overflow_cast-k
+    offset_bounds-parents-k
+    bounds-parents-k
+    overflow_cast-parents
+    offset_bounds-xs-k
+    bounds-xs-k
+    offset_bounds-ys-k
+    bounds-ys-k
+    put_line4-requires
+    shape_of-out
+    returns
     returns)

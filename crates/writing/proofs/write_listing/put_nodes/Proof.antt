@@ -8,59 +8,59 @@ use Rattle.formats.proofs.Laws.Listings.ListingWriting.{Putting, putting_starts,
 use Rattle.writing.proofs.write_listing.put_nodes.Statement.{statement}
 use Rattle.writing.proofs.write_listing.put_nodes.Tie as tie
 
-abbrev invariant-loop : tie.invariant-loop
-invariant-loop out₀ at n parents xs ys next₀ k₀ out next k = Putting (node_text n (tree_of n parents xs ys)) (suc n) (n - 1) out₀ at k next out
+abbrev invariant-loop-k : tie.invariant-loop-k
+invariant-loop-k out₀ at n parents xs ys next₀ k₀ out next k = Putting (node_text n (tree_of n parents xs ys)) (suc n) (n - 1) out₀ at k next out
 
-abbrev decreases-loop : tie.decreases-loop
-decreases-loop out₀ at n parents xs ys next₀ k₀ out next k = 2 * n - k
+abbrev decreases-loop-k : tie.decreases-loop-k
+decreases-loop-k out₀ at n parents xs ys next₀ k₀ out next k = 2 * n - k
 
-add-k : tie.Need-overflow-add-k invariant-loop decreases-loop
-add-k c = omega (arith, c.before.before.requires.0.0.few)
+overflow_add-k : tie.Need-overflow_add-k invariant-loop-k decreases-loop-k
+overflow_add-k c = omega (arith, c.requires.0.0.few)
 
-loop-holds : tie.Need-loop-init invariant-loop decreases-loop
-loop-holds c = rw add-one (putting_starts _ _ _ _ _)
+loop-k-init : tie.Need-loop-k-init invariant-loop-k decreases-loop-k
+loop-k-init c = rw add-one (putting_starts _ _ _ _ _)
 
-mul-loop : tie.Need-overflow-mul-loop invariant-loop decreases-loop
-mul-loop c = omega (arith, c.before.before.before.requires.0.0.few)
+overflow_mul-n : tie.Need-overflow_mul-n invariant-loop-k decreases-loop-k
+overflow_mul-n c = omega (arith, c.requires.0.0.few)
 
-put-node-requires : tie.Need-put-node-requires invariant-loop decreases-loop
-put-node-requires c κs =
-    let st = c.before.before.before.before.before in
-    let w = c.before.before.loop in
-    let t = c.before.loop-test.true in (
+put_node-next-requires : tie.Need-put_node-next-requires invariant-loop-k decreases-loop-k
+put_node-next-requires c κs =
+    let st = c in
+    let w = c.loop-k in
+    let t = c.loop-k-test.true in (
       st.requires.0,
       ((w.invariant.from, t, st.requires.1.0 w.k w.invariant.from t), line_fits _ _ _ _ _ st.requires.1.1 _ _ _ w.invariant (omega arith)),
     )
 
-add-k-2 : tie.Need-overflow-add-k-2 invariant-loop decreases-loop
-add-k-2 c = omega (arith, c.before.before.before.before.before.before.before.before.requires.0.0.few)
+overflow_add-k-in-loop-k : tie.Need-overflow_add-k-in-loop-k invariant-loop-k decreases-loop-k
+overflow_add-k-in-loop-k c = omega (arith, c.requires.0.0.few)
 
-loop-less : tie.Need-loop-smaller invariant-loop decreases-loop
-loop-less c = omega arith
+loop-k-smaller : tie.Need-loop-k-smaller invariant-loop-k decreases-loop-k
+loop-k-smaller c = omega arith
 
-loop-again : tie.Need-loop-preserved invariant-loop decreases-loop
-loop-again c =
-    let st = c.before.before.before.before.before.before.before.before in
-    putting_more _ _ _ _ _ st.requires.1.1 _ _ _ c.before.before.before.before.before.loop.invariant (omega arith) _ _ c.before.before.put-node.ensures
+loop-k-preserved : tie.Need-loop-k-preserved invariant-loop-k decreases-loop-k
+loop-k-preserved c =
+    let st = c in
+    putting_more _ _ _ _ _ st.requires.1.1 _ _ _ c.loop-k.invariant (omega arith) _ _ c.put_node-next.ensures
 
-same_length : tie.Need-same-length invariant-loop decreases-loop
-same_length c = c.before.loop.invariant.long
+shape_of-out : tie.Need-shape_of-out invariant-loop-k decreases-loop-k
+shape_of-out c = c.loop-k.invariant.long
 
-returns : tie.Need-returns invariant-loop decreases-loop
-returns c = putting_ends _ _ _ _ _ _ _ _ c.before.loop.invariant (omega (arith, c.before.before.before.before.requires.0.0.some))
+returns : tie.Need-returns invariant-loop-k decreases-loop-k
+returns c = putting_ends _ _ _ _ _ _ _ _ c.loop-k.invariant (omega (arith, c.requires.0.0.some))
 
-pub put-nodes-spec : {M : Type 1} → statement M
-put-nodes-spec =
+pub put_nodes_spec : {M : Type 1} → statement M
+put_nodes_spec =
     tie.close
     (tie.spec
-    invariant-loop
-    decreases-loop
-    add-k
-    loop-holds
-    mul-loop
-    put-node-requires
-    add-k-2
-    loop-less
-    loop-again
-    same_length
+    invariant-loop-k
+    decreases-loop-k
+    overflow_add-k
+    loop-k-init
+    overflow_mul-n
+    put_node-next-requires
+    overflow_add-k-in-loop-k
+    loop-k-smaller
+    loop-k-preserved
+    shape_of-out
     returns)

@@ -43,43 +43,43 @@ parents_in_lem c =
     listed_parents a.n a.parents.now a.xs.now a.ys.now a.slack.0 a.wire.0 c.requires.0 c.requires.1.0.0
 
 -- the first two parts are put
-abbrev from : tie.After-put-leaves → tie.Start
+abbrev from : tie.After-put_leaves-second → tie.Start
 from c = c.before.before.before.before.before.before.before.before
 
-front-put : (c : tie.After-put-leaves) → Puts (from c).args.out.now 0 (head (from c) ++ leaves (from c)) c.put-leaves.result c.put-leaves.new.0
+front-put : (c : tie.After-put_leaves-second) → Puts (from c).args.out.now 0 (head (from c) ++ leaves (from c)) c.put_leaves-second.result c.put_leaves-second.new.out
 front-put c =
     let st = from c in
-    puts_both _ _ (head st) (leaves st) (front-room st) _ _ c.before.before.before.before.put-head.ensures _ _ c.put-leaves.ensures
+    puts_both _ _ (head st) (leaves st) (front-room st) _ _ c.put_head-first.ensures _ _ c.put_leaves-second.ensures
 
-put-head-requires : tie.Need-put-head-requires
-put-head-requires c κs =
-    let st = c.before.before.before in
+put_head-first-requires : tie.Need-put_head-first-requires
+put_head-first-requires c κs =
+    let st = c in
     let r = st.requires.0 in
-    let fits = fits_first st.args.out.now 0 (head st) (leaves st) (front-room st) in
+    let fits = fits_first st.args.out.now 0 (head st.before.before.before) (leaves st.before.before.before) (front-room st.before.before.before) in
     ((r.slack, r.wire, r.sinks.1), rw zero-add at fits)
 
-put-leaves-requires : tie.Need-put-leaves-requires
-put-leaves-requires c κs =
-    let st = c.before.before.before.before.before.before.before in
-    (parents_in_lem st, fits_next _ _ (head st) (leaves st) (front-room st) _ _ c.before.before.before.put-head.ensures)
+put_leaves-second-requires : tie.Need-put_leaves-second-requires
+put_leaves-second-requires c κs =
+    let st = c in
+    (parents_in_lem st.before.before.before.before.before.before.before, fits_next _ _ (head st.before.before.before.before.before.before.before) (leaves st.before.before.before.before.before.before.before) (front-room st.before.before.before.before.before.before.before) _ _ c.put_head-first.ensures)
 
-put-nodes-requires : tie.Need-put-nodes-requires
-put-nodes-requires c κs =
-    let st = c.before.before.before.before.before.before.before.before.before.before.before in
+put_nodes-requires : tie.Need-put_nodes-requires
+put_nodes-requires c κs =
+    let st = c in
     let a = st.args in (
-      (parents_in_lem st, st.requires.1.0),
-      (listed_points a.n a.parents.now a.xs.now a.ys.now a.slack.0 a.wire.0 st.requires.0, fits_next _ _ (head st ++ leaves st) (nodes st) (room st) _ _ (front-put c.before.before.before)),
+      (parents_in_lem st.before.before.before.before.before.before.before.before.before.before.before, st.requires.1.0),
+      (listed_points a.n a.parents.now a.xs.now a.ys.now a.slack.0 a.wire.0 st.requires.0, fits_next _ _ (head st.before.before.before.before.before.before.before.before.before.before.before ++ leaves st.before.before.before.before.before.before.before.before.before.before.before) (nodes st.before.before.before.before.before.before.before.before.before.before.before) (room st.before.before.before.before.before.before.before.before.before.before.before) _ _ (front-put c.before.before.before)),
     )
 
-same_length : tie.Need-same-length
-same_length c = search rules
+shape_of-out : tie.Need-shape_of-out
+shape_of-out c = search rules
 
 returns : tie.Need-returns
 returns c =
-    let st = c.before.before.before.before.before.before.before.before.before.before.before.before.before.before in
-    rw (listing_is st.args.n (listing st)) (puts_both _ _ (head st ++ leaves st) (nodes st) (room st) _ _ (front-put c.before.before.before.before.before.before) _ _ c.before.before.put-nodes.ensures)
+    let st = c in
+    rw (listing_is st.args.n (listing st.before.before.before.before.before.before.before.before.before.before.before.before.before.before)) (puts_both _ _ (head st.before.before.before.before.before.before.before.before.before.before.before.before.before.before ++ leaves st.before.before.before.before.before.before.before.before.before.before.before.before.before.before) (nodes st.before.before.before.before.before.before.before.before.before.before.before.before.before.before) (room st.before.before.before.before.before.before.before.before.before.before.before.before.before.before) _ _ (front-put c.before.before.before.before.before.before) _ _ c.put_nodes.ensures)
 
-pub write-listing-spec : {M : Type 1} → statement M
-write-listing-spec =
+pub write_listing_spec : {M : Type 1} → statement M
+write_listing_spec =
     tie.close
-    (tie.spec put-head-requires put-leaves-requires put-nodes-requires same_length returns)
+    (tie.spec put_head-first-requires put_leaves-second-requires put_nodes-requires shape_of-out returns)

@@ -25,62 +25,62 @@ line c =
     let a = c.args in
     sink_line_lem a.xs.now a.ys.now a.required.now a.weights.now a.k c.requires.0
 
-slice-aggregate-put-line4 : tie.Need-slice-aggregate-put-line4
-slice-aggregate-put-line4 c = search rules
+offset_bounds-xs-k : tie.Need-offset_bounds-xs-k
+offset_bounds-xs-k c = search rules
 
-mul-put-line4 : tie.Need-overflow-mul-put-line4
-mul-put-line4 c = search rules
+bounds-xs-k : tie.Need-bounds-xs-k
+bounds-xs-k c = search rules
 
-shared-slice-copy-out-put-line4 : tie.Need-shared-slice-copy-out-put-line4
-shared-slice-copy-out-put-line4 c = search rules
+offset_bounds-ys-k : tie.Need-offset_bounds-ys-k
+offset_bounds-ys-k c = search rules
 
-mul-put-line4-2 : tie.Need-overflow-mul-put-line4-2
-mul-put-line4-2 c = search rules
+bounds-ys-k : tie.Need-bounds-ys-k
+bounds-ys-k c = search rules
 
-shared-slice-copy-out-put-line4-2 : tie.Need-shared-slice-copy-out-put-line4-2
-shared-slice-copy-out-put-line4-2 c = search rules
+offset_bounds-required-k : tie.Need-offset_bounds-required-k
+offset_bounds-required-k c = search rules
 
-mul-put-line4-3 : tie.Need-overflow-mul-put-line4-3
-mul-put-line4-3 c = search rules
+bounds-required-k : tie.Need-bounds-required-k
+bounds-required-k c = search rules
 
-shared-slice-copy-out-put-line4-3 : tie.Need-shared-slice-copy-out-put-line4-3
-shared-slice-copy-out-put-line4-3 c = search rules
+offset_bounds-weights-k : tie.Need-offset_bounds-weights-k
+offset_bounds-weights-k c = search rules
 
-mul-put-line4-4 : tie.Need-overflow-mul-put-line4-4
-mul-put-line4-4 c = search rules
+bounds-weights-k : tie.Need-bounds-weights-k
+bounds-weights-k c = search rules
 
-shared-slice-copy-out-put-line4-4 : tie.Need-shared-slice-copy-out-put-line4-4
-shared-slice-copy-out-put-line4-4 c = search rules
+put_line4-requires : tie.Need-put_line4-requires
+put_line4-requires c = search rules
 
-put-line4-requires : tie.Need-put-line4-requires
-put-line4-requires c κs =
-    let st = c.before.before.before.before.before.before.before in
+shape_of-out : tie.Need-shape_of-out
+shape_of-out c κs =
+    let st = c in
     let a = st.args in
     let w = sink_writable a.xs.now a.ys.now a.required.now a.weights.now a.k st.requires.0 in
-    (w.0, w.1, w.2, w.3, subst (λ (s : List ℕ). a.at + length s ≤ length a.out.now) (sym (line st)) st.requires.1)
+    (w.0, w.1, w.2, w.3, subst (λ (s : List ℕ). a.at + length s ≤ length a.out.now) (sym (line st.before.before.before.before.before.before.before.before.before.before.before)) st.requires.1)
 
-same_length : tie.Need-same-length
-same_length c = search rules
+returns : tie.Need-returns
+returns c = search rules
 
 returns : tie.Need-returns
 returns c =
-    let st = c.before.before.before.before.before.before.before.before.before.before in
+    let st = c in
     let a = st.args in
-    subst (λ (s : List ℕ). Puts a.out.now a.at s c.before.before.put-line4.result c.before.before.put-line4.new.0) (line st) c.before.before.put-line4.ensures
+    subst (λ (s : List ℕ). Puts a.out.now a.at s c.put_line4.result c.put_line4.new.out) (line st) c.put_line4.ensures
 
-pub put-sink-spec : {M : Type 1} → statement M
-put-sink-spec =
+pub put_sink_spec : {M : Type 1} → statement M
+put_sink_spec =
     tie.close
     (tie.spec
-    slice-aggregate-put-line4
-    mul-put-line4
-    shared-slice-copy-out-put-line4
-    mul-put-line4-2
-    shared-slice-copy-out-put-line4-2
-    mul-put-line4-3
-    shared-slice-copy-out-put-line4-3
-    mul-put-line4-4
-    shared-slice-copy-out-put-line4-4
-    put-line4-requires
-    same_length
+    offset_bounds-xs-k
+    bounds-xs-k
+    offset_bounds-ys-k
+    bounds-ys-k
+    offset_bounds-required-k
+    bounds-required-k
+    offset_bounds-weights-k
+    bounds-weights-k
+    put_line4-requires
+    shape_of-out
+    returns
     returns)

@@ -36,53 +36,53 @@ room : (c : tie.Start) → 0 + length (head c ++ sinks c) ≤ length c.args.out.
 room c = omega (arith, ap length (text c), c.requires.1)
 
 -- the head is put
-abbrev from : tie.After-put-head → tie.Start
+abbrev from : tie.After-put_head-next → tie.Start
 from c = c.before.before.before.before.before
 
-head-put : (c : tie.After-put-head) → Puts (from c).args.out.now 0 (head (from c)) c.put-head.result c.put-head.new.0
+head-put : (c : tie.After-put_head-next) → Puts (from c).args.out.now 0 (head (from c)) c.put_head-next.result c.put_head-next.new.out
 head-put c =
     let a = (from c).args in
-    subst (λ (p : Point). Puts a.out.now 0 (net_head_text a.header p a.n) c.put-head.result c.put-head.new.0) (root (from c)) c.put-head.ensures
+    subst (λ (p : Point). Puts a.out.now 0 (net_head_text a.header p a.n) c.put_head-next.result c.put_head-next.new.out) (root (from c)) c.put_head-next.ensures
 
-shared-slice-copy-out-t11 : tie.Need-shared-slice-copy-out-t11
-shared-slice-copy-out-t11 c = search rules
+bounds-xs-0 : tie.Need-bounds-xs-0
+bounds-xs-0 c = search rules
 
-shared-slice-copy-out-t13 : tie.Need-shared-slice-copy-out-t13
-shared-slice-copy-out-t13 c = search rules
+bounds-ys-0 : tie.Need-bounds-ys-0
+bounds-ys-0 c = search rules
 
-put-head-requires : tie.Need-put-head-requires
-put-head-requires c κs =
-    let st = c.before.before.before.before in
+put_head-next-requires : tie.Need-put_head-next-requires
+put_head-next-requires c κs =
+    let st = c in
     let a = st.args in
-    let back = sym (root st) in
+    let back = sym (root st.before.before.before.before) in
     let inside = head_in_range a.header a.n a.xs.now a.ys.now a.required.now st.requires.0.0 in
-    let fits = fits_first a.out.now 0 (head st) (sinks st) (room st) in (
+    let fits = fits_first a.out.now 0 (head st.before.before.before.before) (sinks st.before.before.before.before) (room st.before.before.before.before) in (
       subst (λ (p : Point). HeadInRange a.header p a.n) back inside,
       subst (λ (p : Point). length (net_head_text a.header p a.n) ≤ length a.out.now) back (rw zero-add at fits),
     )
 
-put-sinks-requires : tie.Need-put-sinks-requires
-put-sinks-requires c κs =
-    let st = c.before.before.before.before.before.before.before.before in
+put_sinks-requires : tie.Need-put_sinks-requires
+put_sinks-requires c κs =
+    let st = c in
     let a = st.args in
     let inside = sinks_in_range a.header a.n a.xs.now a.ys.now a.required.now st.requires.0.0 a.weights.now st.requires.0.1 in
-    (inside, fits_next _ _ (head st) (sinks st) (room st) _ _ (head-put c.before.before.before))
+    (inside, fits_next _ _ (head st.before.before.before.before.before.before.before.before) (sinks st.before.before.before.before.before.before.before.before) (room st.before.before.before.before.before.before.before.before) _ _ (head-put c.before.before.before))
 
-same_length : tie.Need-same-length
-same_length c = search rules
+shape_of-out : tie.Need-shape_of-out
+shape_of-out c = search rules
 
 returns : tie.Need-returns
 returns c =
-    let st = c.before.before.before.before.before.before.before.before.before.before.before in
-    rw (text st) (puts_both _ _ (head st) (sinks st) (room st) _ _ (head-put c.before.before.before.before.before.before) _ _ c.before.before.put-sinks.ensures)
+    let st = c in
+    rw (text st.before.before.before.before.before.before.before.before.before.before.before) (puts_both _ _ (head st.before.before.before.before.before.before.before.before.before.before.before) (sinks st.before.before.before.before.before.before.before.before.before.before.before) (room st.before.before.before.before.before.before.before.before.before.before.before) _ _ (head-put c.before.before.before.before.before.before) _ _ c.put_sinks.ensures)
 
-pub write-net-spec : {M : Type 1} → statement M
-write-net-spec =
+pub write_net_spec : {M : Type 1} → statement M
+write_net_spec =
     tie.close
     (tie.spec
-    shared-slice-copy-out-t11
-    shared-slice-copy-out-t13
-    put-head-requires
-    put-sinks-requires
-    same_length
+    bounds-xs-0
+    bounds-ys-0
+    put_head-next-requires
+    put_sinks-requires
+    shape_of-out
     returns)

@@ -5,26 +5,26 @@ use Rattle.formats.proofs.Laws.Numbers.Saturation.{number_path}
 use Rattle.formats.proofs.number.Number.digit.Statement.{statement}
 use Rattle.formats.proofs.number.Number.digit.Tie as tie
 
-mul-more : tie.Need-overflow-mul-more
-mul-more c = search rules
+overflow_mul-more : tie.Need-overflow_mul-more
+overflow_mul-more c = search rules
 
-sub_more : tie.Need-overflow-sub-more
-sub_more c = search rules
+overflow_sub-more : tie.Need-overflow_sub-more
+overflow_sub-more c = search rules
 
-cast-more : tie.Need-overflow-cast-more
-cast-more c = search rules
+overflow_cast-more : tie.Need-overflow_cast-more
+overflow_cast-more c = search rules
 
-add-more : tie.Need-overflow-add-more
-add-more c = search rules
+overflow_add-more : tie.Need-overflow_add-more
+overflow_add-more c = search rules
 
-returns : tie.Need-returns
-returns c = number_path _ (omega arith)
+returns-then-more-lt-MAGNITUDE_CAP : tie.Need-returns-then-more-lt-MAGNITUDE_CAP
+returns-then-more-lt-MAGNITUDE_CAP c = number_path _ (omega arith)
 
-returns-2 : tie.Need-returns-2
-returns-2 c = number_path _ (omega arith)
+returns-else-more-lt-MAGNITUDE_CAP : tie.Need-returns-else-more-lt-MAGNITUDE_CAP
+returns-else-more-lt-MAGNITUDE_CAP c = number_path _ (omega arith)
 
-returns-3 : tie.Need-returns-3
-returns-3 c = number_path _ (omega arith)
+returns-else-mag-lt-MAGNITUDE_CAP : tie.Need-returns-else-mag-lt-MAGNITUDE_CAP
+returns-else-mag-lt-MAGNITUDE_CAP c = number_path _ (omega arith)
 
-pub digit-spec : {M : Type 1} → statement M
-digit-spec = tie.close (tie.spec mul-more sub_more cast-more add-more returns returns-2 returns-3)
+pub digit_spec : {M : Type 1} → statement M
+digit_spec = tie.close (tie.spec overflow_mul-more overflow_sub-more overflow_cast-more overflow_add-more returns-then-more-lt-MAGNITUDE_CAP returns-else-more-lt-MAGNITUDE_CAP returns-else-mag-lt-MAGNITUDE_CAP)

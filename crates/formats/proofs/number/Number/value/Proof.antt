@@ -4,17 +4,17 @@ use Rattle.formats.proofs.Laws.Numbers.Signs.{difference_fits, minus_back, plain
 use Rattle.formats.proofs.number.Number.value.Statement.{statement}
 use Rattle.formats.proofs.number.Number.value.Tie as tie
 
-cast-z : tie.Need-overflow-cast-z
-cast-z c = search rules
+overflow_cast-z : tie.Need-overflow_cast-z
+overflow_cast-z c = search rules
 
-sub-result : tie.Need-overflow-sub-result
-sub-result c = difference_fits c.before.before.args.self.mag c.before.before.requires
+overflow_sub-result : tie.Need-overflow_sub-result
+overflow_sub-result c = difference_fits c.args.self.mag c.requires
 
-returns : tie.Need-returns
-returns c = rw c.if1.true (minus_back c.before.before.args.self.mag c.before.before.requires)
+returns-then-self : tie.Need-returns-then-self
+returns-then-self c = rw c.if-self.true (minus_back c.args.self.mag c.requires)
 
-returns-2 : tie.Need-returns-2
-returns-2 c = rw c.if1.false (plain_back c.before.before.args.self.mag c.before.before.requires)
+returns-else-self : tie.Need-returns-else-self
+returns-else-self c = rw c.if-self.false (plain_back c.args.self.mag c.requires)
 
 pub value_spec : {M : Type 1} → statement M
-value_spec = tie.close (tie.spec cast-z sub-result returns returns-2)
+value_spec = tie.close (tie.spec overflow_cast-z overflow_sub-result returns-then-self returns-else-self)

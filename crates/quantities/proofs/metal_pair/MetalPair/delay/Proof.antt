@@ -20,52 +20,52 @@ span-requires : tie.Need-span-requires
 span-requires c κs = search rules
 
 -- what the two spans are, at the coordinates themselves
-across : (c : tie.After-span) → c.span.result.0 ≡ span c.before.before.before.args.p.x c.before.before.before.args.q.x
+across : (c : tie.After-span) → c.span.result.0 ≡ span c.args.p.x c.args.q.x
 across c =
-    let a = c.before.before.before.args in
+    let a = c.args in
     let f : SFits w64 a.p.x = omega (arith, whole) in
     let g : SFits w64 a.q.x = omega (arith, whole) in
     c.span.ensures ∙ ap₂ span (to_z-of_z f) (to_z-of_z g)
 
-upward : (c : tie.After-span2) → c.span2.result.0 ≡ span c.before.before.before.before.before.before.before.args.p.y c.before.before.before.before.before.before.before.args.q.y
+upward : (c : tie.After-span-2) → c.span-2.result.0 ≡ span c.args.p.y c.args.q.y
 upward c =
-    let a = c.before.before.before.before.before.before.before.args in
+    let a = c.args in
     let f : SFits w64 a.p.y = omega (arith, whole) in
     let g : SFits w64 a.q.y = omega (arith, whole) in
-    c.span2.ensures ∙ ap₂ span (to_z-of_z f) (to_z-of_z g)
+    c.span-2.ensures ∙ ap₂ span (to_z-of_z f) (to_z-of_z g)
 
-delay-requires : tie.Need-delay-requires
-delay-requires c κs =
-    let s = c.before.before.before in
+delay-across-requires : tie.Need-delay-across-requires
+delay-across-requires c κs =
+    let s = c in
     (s.requires.0.0, omega (arith, across c, span_within coordinate_reach s.args.p.x s.args.q.x s.requires.1.0 s.requires.2.0))
 
 span-requires-2 : tie.Need-span-requires-2
 span-requires-2 c κs = search rules
 
-delay-requires-2 : tie.Need-delay-requires-2
-delay-requires-2 c κs =
-    let s = c.before.before.before.before.before.before.before in
+delay-upward-requires : tie.Need-delay-upward-requires
+delay-upward-requires c κs =
+    let s = c in
     (s.requires.0.1, omega (arith, upward c, span_within coordinate_reach s.args.p.y s.args.q.y s.requires.1.1 s.requires.2.1))
 
 -- and the two delays
-abbrev Across : tie.After-delay2 → Type 0
-Across c = let a = c.before.before.before.before.before.before.before.before.args in c.before.before.before.before.delay.result.0 ≡ pos (length_delay a.self.horizontal (span a.p.x a.q.x))
+abbrev Across : tie.After-delay-upward → Type 0
+Across c = let a = c.args in c.delay-across.result.0 ≡ pos (length_delay a.self.horizontal (span a.p.x a.q.x))
 
-abbrev Upward : tie.After-delay2 → Type 0
-Upward c = let a = c.before.before.before.before.before.before.before.before.args in c.delay2.result.0 ≡ pos (length_delay a.self.vertical (span a.p.y a.q.y))
+abbrev Upward : tie.After-delay-upward → Type 0
+Upward c = let a = c.args in c.delay-upward.result.0 ≡ pos (length_delay a.self.vertical (span a.p.y a.q.y))
 
-delays : (c : tie.After-delay2) → Across c × Upward c
+delays : (c : tie.After-delay-upward) → Across c × Upward c
 delays c =
-    let a = c.before.before.before.before.before.before.before.before.args in
-    let d = c.before.before.before.before in (
-      d.delay.ensures ∙ ap (λ l. pos (length_delay a.self.horizontal l)) (across d.before),
-      c.delay2.ensures ∙ ap (λ l. pos (length_delay a.self.vertical l)) (upward c.before),
+    let a = c.args in
+    let d = c in (
+      d.delay-across.ensures ∙ ap (λ l. pos (length_delay a.self.horizontal l)) (across d.before.before.before.before.before.before),
+      c.delay-upward.ensures ∙ ap (λ l. pos (length_delay a.self.vertical l)) (upward c.before),
     )
 
 -- how far they go
-fits : (c : tie.After-delay2) → Within time_reach c.before.before.before.before.delay.result.0 × Within time_reach c.delay2.result.0
+fits : (c : tie.After-delay-upward) → Within time_reach c.delay-across.result.0 × Within time_reach c.delay-upward.result.0
 fits c =
-    let s = c.before.before.before.before.before.before.before.before in
+    let s = c in
     let a = s.args in
     let p = s.requires in
     let x = along_within a.self.horizontal factor_reach coordinate_reach a.p.x a.q.x p.0.0 p.1.0 p.2.0 in
@@ -79,5 +79,5 @@ returns : tie.Need-returns
 unfolding delay
 returns c = let d = delays c.before in c.plus.ensures ∙ ap₂ ◌+ℤ◌ d.0 d.1
 
-pub delay-spec : {M : Type 1} → statement M
-delay-spec = tie.close (tie.spec span-requires delay-requires span-requires-2 delay-requires-2 plus-requires returns)
+pub delay_spec : {M : Type 1} → statement M
+delay_spec = tie.close (tie.spec span-requires delay-across-requires span-requires-2 delay-upward-requires plus-requires returns)

@@ -30,8 +30,8 @@ module _ (a b : ℤ) (f : SFits w64 a) (g : SFits w64 b) where
 
 returns : tie.Need-returns
 returns c =
-    let a = c.before.before.before.before.args in
-    neither-larger a.self.0 a.other.0 (fit a.self.0 c.before.before.struct_told.given.0.1) (fit a.other.0 c.struct-told2.given.0.1) _ _ _ refl refl refl
+    let a = c.args in
+    neither-larger a.self.0 a.other.0 (fit a.self.0 c.struct_told-1.given.0.1) (fit a.other.0 c.struct_told-2-1.given.0.1) _ _ _ refl refl refl
 
-pub is-same-spec : {M : Type 1} → statement M
-is-same-spec = tie.close (tie.spec returns)
+pub is_same_spec : {M : Type 1} → statement M
+is_same_spec = tie.close (tie.spec returns)

@@ -5,19 +5,19 @@ use Rattle.quantities.proofs.Laws.MinMax.{min_is}
 use Rattle.quantities.proofs.time.Time.least.Statement.{statement}
 use Rattle.quantities.proofs.time.Time.least.Tie as tie
 
-returns : tie.Need-returns
-returns c =
-    let a = c.before.before.before.before.before.args in
-    let f = fit a.other.0 c.before.before.before.struct_told.given.0.1 in
-    let g = fit a.self.0 c.before.struct-told2.given.0.1 in
+returns-then-other-self : tie.Need-returns-then-other-self
+returns-then-other-self c =
+    let a = c.args in
+    let f = fit a.other.0 c.struct_told-1.given.0.1 in
+    let g = fit a.self.0 c.struct_told-2-1.given.0.1 in
     omega (arith, whole, min_is a.self.0 a.other.0)
 
-returns-2 : tie.Need-returns-2
-returns-2 c =
-    let a = c.before.before.before.before.before.args in
-    let f = fit a.other.0 c.before.before.before.struct_told.given.0.1 in
-    let g = fit a.self.0 c.before.struct-told2.given.0.1 in
+returns-else-other-self : tie.Need-returns-else-other-self
+returns-else-other-self c =
+    let a = c.args in
+    let f = fit a.other.0 c.struct_told-1.given.0.1 in
+    let g = fit a.self.0 c.struct_told-2-1.given.0.1 in
     omega (arith, whole, min_is a.self.0 a.other.0)
 
-pub least-spec : {M : Type 1} → statement M
-least-spec = tie.close (tie.spec returns returns-2)
+pub least_spec : {M : Type 1} → statement M
+least_spec = tie.close (tie.spec returns-then-other-self returns-else-other-self)

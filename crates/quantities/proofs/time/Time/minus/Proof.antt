@@ -6,19 +6,19 @@ use Rattle.quantities.specs.Inner.Linear.{whole, -is, rd, dif_is}
 use Rattle.quantities.proofs.time.Time.minus.Statement.{statement}
 use Rattle.quantities.proofs.time.Time.minus.Tie as tie
 
-sub-t3 : tie.Need-overflow-sub-t3
-sub-t3 c =
-    let a = c.before.before.before.before.args in
+overflow_sub-result : tie.Need-overflow_sub-result
+overflow_sub-result c =
+    let a = c.args in
     let f : SFits w64 a.self.0 = omega (arith, whole) in
     let g : SFits w64 a.other.0 = omega (arith, whole) in
     omega (arith, whole, -is (rd a.self.0) (rd a.other.0))
 
 returns : tie.Need-returns
 returns c =
-    let a = c.before.before.before.before.args in
+    let a = c.args in
     let f : SFits w64 a.self.0 = omega (arith, whole) in
     let g : SFits w64 a.other.0 = omega (arith, whole) in
-    dif_is f g (sub-t3 c)
+    dif_is f g (overflow_sub-result c)
 
-pub minus-spec : {M : Type 1} → statement M
-minus-spec = tie.close (tie.spec sub-t3 returns)
+pub minus_spec : {M : Type 1} → statement M
+minus_spec = tie.close (tie.spec overflow_sub-result returns)

@@ -6,19 +6,19 @@ use Rattle.quantities.specs.Inner.Linear.{whole, +is, rd, sum_is}
 use Rattle.quantities.proofs.time.Time.plus.Statement.{statement}
 use Rattle.quantities.proofs.time.Time.plus.Tie as tie
 
-add-t3 : tie.Need-overflow-add-t3
-add-t3 c =
-    let a = c.before.before.before.before.args in
+overflow_add-result : tie.Need-overflow_add-result
+overflow_add-result c =
+    let a = c.args in
     let f : SFits w64 a.self.0 = omega (arith, whole) in
     let g : SFits w64 a.other.0 = omega (arith, whole) in
     omega (arith, whole, +is (rd a.self.0) (rd a.other.0))
 
 returns : tie.Need-returns
 returns c =
-    let a = c.before.before.before.before.args in
+    let a = c.args in
     let f : SFits w64 a.self.0 = omega (arith, whole) in
     let g : SFits w64 a.other.0 = omega (arith, whole) in
-    sum_is f g (add-t3 c)
+    sum_is f g (overflow_add-result c)
 
-pub plus-spec : {M : Type 1} → statement M
-plus-spec = tie.close (tie.spec add-t3 returns)
+pub plus_spec : {M : Type 1} → statement M
+plus_spec = tie.close (tie.spec overflow_add-result returns)

@@ -11,15 +11,15 @@ use borrow.Author.Rules.{rules}
 use Rattle.quantities.proofs.time.Time.times.Statement.{statement}
 use Rattle.quantities.proofs.time.Time.times.Tie as tie
 
-cast-t3 : tie.Need-overflow-cast-t3
-cast-t3 c = search rules
+overflow_cast-result : tie.Need-overflow_cast-result
+overflow_cast-result c = search rules
 
-mul-t4 : tie.Need-overflow-mul-t4
-mul-t4 c =
-    let a = c.before.before.args in
+overflow_mul-result : tie.Need-overflow_mul-result
+overflow_mul-result c =
+    let a = c.args in
     let f : SFits w64 a.self.0 = omega (arith, whole) in
     let g : SFits w64 (pos a.count) = omega (arith, whole) in
-    let small = c.before.before.requires in
+    let small = c.requires in
     let abs = abs_le a.self.0 term_reach small.0.0 small.0.1 in
     let product = mul-le a.self.0 (pos a.count) term_reach factor_reach abs small.1 in
     subst
@@ -29,10 +29,10 @@ mul-t4 c =
 
 returns : tie.Need-returns
 returns c =
-    let a = c.before.before.args in
+    let a = c.args in
     let f : SFits w64 a.self.0 = omega (arith, whole) in
     let g : SFits w64 (pos a.count) = omega (arith, whole) in
-    mul_is f g (mul-t4 c)
+    mul_is f g (overflow_mul-result c)
 
-pub times-spec : {M : Type 1} → statement M
-times-spec = tie.close (tie.spec cast-t3 mul-t4 returns)
+pub times_spec : {M : Type 1} → statement M
+times_spec = tie.close (tie.spec overflow_cast-result overflow_mul-result returns)

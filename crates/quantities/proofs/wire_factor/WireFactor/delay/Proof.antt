@@ -16,23 +16,23 @@ nanometres-requires : tie.Need-nanometres-requires
 nanometres-requires c κs = search rules
 
 -- the product is the delay
-product_is : (c : tie.After-struct-known) → c.before.before.args.self.0 * c.before.nanometres.result ≡ length_delay c.before.before.args.self c.before.before.args.length.0
-product_is c = ap (λ (n : ℕ). c.before.before.args.self.0 * n) c.before.nanometres.ensures
+product_is : (c : tie.After-struct_known-1) → c.args.self.0 * c.nanometres.result ≡ length_delay c.args.self c.args.length.0
+product_is c = ap (λ (n : ℕ). c.args.self.0 * n) c.nanometres.ensures
 
-small : (c : tie.After-struct-known) → c.before.before.args.self.0 * c.before.nanometres.result ≤ factor_reach * (2 * coordinate_reach)
-small c = let h = c.before.before.requires in omega (arith, product_is c, mul-le-mul {n₂ = factor_reach} {m₂ = 2 * coordinate_reach} h.0 h.1)
+small : (c : tie.After-struct_known-1) → c.args.self.0 * c.nanometres.result ≤ factor_reach * (2 * coordinate_reach)
+small c = let h = c.requires in omega (arith, product_is c, mul-le-mul {n₂ = factor_reach} {m₂ = 2 * coordinate_reach} h.0 h.1)
 
-mul-product : tie.Need-overflow-mul-product
-mul-product c = omega (arith, small c)
+overflow_mul-product : tie.Need-overflow_mul-product
+overflow_mul-product c = omega (arith, small c)
 
-cast-of : tie.Need-overflow-cast-of
-cast-of c = omega (arith, whole, small c)
+overflow_cast-product : tie.Need-overflow_cast-product
+overflow_cast-product c = omega (arith, whole, small c)
 
 of-requires : tie.Need-of-requires
 of-requires c κs = search rules
 
 returns : tie.Need-returns
-returns c = c.of.ensures ∙ to_z-of_z (cast-of c.before) ∙ ap pos (product_is c.before)
+returns c = c.of.ensures ∙ to_z-of_z (overflow_cast-product c.before) ∙ ap pos (product_is c.before)
 
-pub delay-spec : {M : Type 1} → statement M
-delay-spec = tie.close (tie.spec nanometres-requires mul-product cast-of of-requires returns)
+pub delay_spec : {M : Type 1} → statement M
+delay_spec = tie.close (tie.spec nanometres-requires overflow_mul-product overflow_cast-product of-requires returns)

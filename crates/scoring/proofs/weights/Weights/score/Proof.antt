@@ -12,9 +12,9 @@ loss-requires c κs = search rules
 
 returns : tie.Need-returns
 returns c A B h =
-    let s = c.before.before in
+    let s = c in
     let a = s.args in
-    score_made a.self A B h a.slack.0 a.wire.0 s.requires.1 s.requires.2 c.before.gain.result c.loss.result (c.before.gain.ensures A B h).0 (c.loss.ensures A B h).0
+    score_made a.self A B h a.slack.0 a.wire.0 s.requires.1 s.requires.2 c.gain.result c.loss.result (c.gain.ensures A B h).0 (c.loss.ensures A B h).0
 
-pub score-spec : {M : Type 1} → statement M
-score-spec = tie.close (tie.spec gain-requires loss-requires returns)
+pub score_spec : {M : Type 1} → statement M
+score_spec = tie.close (tie.spec gain-requires loss-requires returns)
