@@ -32,7 +32,7 @@ returns-in-Planned c =
 returns-in-PlanRefused : tie.Need-returns-in-PlanRefused
 returns-in-PlanRefused c =
     let t = c.tell-told.ensures in
-    (λ i. record { number = (t i).number; text = (t i).text; line = (t i).line; slack = pos 0; wire = 0; bytes = 0 }) ∙ ap plan_figures (sym c.answer-in-PlanRefused-1.given.1)
+    (λ i. record { number = (t i).number; text = (t i).text; line = (t i).line; slack = pos 0; wire = 0; bytes = 0 }) ∙ ap plan_figures (sym c.in-PlanRefused.is)
 
 pub give_spec : {M : Type 1} → statement M
 give_spec =

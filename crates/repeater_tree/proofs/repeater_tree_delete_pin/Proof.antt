@@ -26,7 +26,7 @@ shape_of-listing_out-in-Deleted c = search rules
 returns-in-Deleted : tie.Need-returns-in-Deleted
 returns-in-Deleted c =
     let d = c.delete_pin.ensures in
-    (ap deletion_figures (sym c.net_written-1.given.1 ∙ d.0), d.1)
+    (ap deletion_figures (sym c.in-Deleted.is ∙ d.0), d.1)
 
 shape_of-net_out-in-DeletionRefused : tie.Need-shape_of-net_out-in-DeletionRefused
 shape_of-net_out-in-DeletionRefused c = search rules
@@ -38,7 +38,7 @@ returns-in-DeletionRefused : tie.Need-returns-in-DeletionRefused
 returns-in-DeletionRefused c =
     let t = c.tell-told.ensures in
     let d = c.delete_pin.ensures in (
-      (λ i. record { number = (t i).number; text = (t i).text; line = (t i).line; net_bytes = 0; listing_bytes = 0 }) ∙ ap deletion_figures (sym c.refusal-1.given.1 ∙ d.0),
+      (λ i. record { number = (t i).number; text = (t i).text; line = (t i).line; net_bytes = 0; listing_bytes = 0 }) ∙ ap deletion_figures (sym c.in-DeletionRefused.is ∙ d.0),
       d.1,
     )
 

@@ -42,13 +42,13 @@ returns-in-Judged c =
       wire = wire.ensures i;
       best = (to_z-of_z (fit best.result best.type_inv) ∙ best.ensures) i;
     })
-    ∙ ap judge_figures (sym c.worst-1.given.1 ∙ c.judge.ensures)
+    ∙ ap judge_figures (sym c.in-Judged.is ∙ c.judge.ensures)
 
 returns-in-JudgeRefused : tie.Need-returns-in-JudgeRefused
 returns-in-JudgeRefused c =
     let t = c.tell-told.ensures in
     (λ i. record { number = (t i).number; text = (t i).text; line = (t i).line; slack = pos 0; wire = 0; best = pos 0 })
-    ∙ ap judge_figures (sym c.refusal-1.given.1 ∙ c.judge.ensures)
+    ∙ ap judge_figures (sym c.in-JudgeRefused.is ∙ c.judge.ensures)
 
 pub repeater_tree_judge_spec : {M : Type 1} → statement M
 repeater_tree_judge_spec =

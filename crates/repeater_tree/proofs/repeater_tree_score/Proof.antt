@@ -27,14 +27,14 @@ answered c =
     c.score.ensures ∙ (λ i. score_answer (score_of s.args.net.now s.args.listing.now (to_z-of_z s.ranges.alpha_1024ths i) (to_z-of_z s.ranges.beta_1024ths i) (to_z-of_z s.ranges.cap i)))
 
 returns-in-Scored : tie.Need-returns-in-Scored
-returns-in-Scored c = ap score_figures (sym c.given-1.given.1 ∙ answered c.before.before.before)
+returns-in-Scored c = ap score_figures (sym c.in-Scored.is ∙ answered c.before.before.before)
 
 returns-in-ScoreRefused : tie.Need-returns-in-ScoreRefused
 unfolding of_bits
 returns-in-ScoreRefused c =
     let t = c.tell-told.ensures in
     (λ i. record { number = (t i).number; text = (t i).text; line = (t i).line; score = plus_zero })
-    ∙ ap score_figures (sym c.refusal-1.given.1 ∙ answered c.before.before.before.before)
+    ∙ ap score_figures (sym c.in-ScoreRefused.is ∙ answered c.before.before.before.before)
 
 pub repeater_tree_score_spec : {M : Type 1} → statement M
 repeater_tree_score_spec =

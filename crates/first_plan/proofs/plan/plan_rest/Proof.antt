@@ -13,7 +13,7 @@ use Rattle.first_plan.proofs.plan.plan_rest.Tie as tie
 
 -- the arrays hold the net that was read
 read : (c : tie.In_default) → (let a = c.args in let l = c.read_rest.new in read_net a.net.now ≡ value (net_of a.header a.n l.1.1.1.1.0 l.1.1.1.1.1.0 l.1.1.1.1.1.1.0))
-read c = let s = c in net_of_lem _ _ (s.requires.0.0 ∙ (rw c.enum_told-1.given.1 at (c.read_rest.ensures s.args.header)))
+read c = let s = c in net_of_lem _ _ (s.requires.0.0 ∙ (rw c.in_default.is at (c.read_rest.ensures s.args.header)))
 
 read_rest-requires : tie.Need-read_rest-requires
 read_rest-requires c κs = search rules
@@ -36,7 +36,7 @@ shape_of-own-in-NetRefused c = search rules
 returns-in-NetRefused : tie.Need-returns-in-NetRefused
 returns-in-NetRefused c =
     let s = c in
-    refused_answer _ _ _ (both_refuse _ _ (s.requires.0.0 ∙ (rw c.refusal-1.given.1 at (c.read_rest.ensures s.args.header))))
+    refused_answer _ _ _ (both_refuse _ _ (s.requires.0.0 ∙ (rw c.in-NetRefused.is at (c.read_rest.ensures s.args.header))))
 
 enum_told-1 : tie.Need-enum_told-1
 enum_told-1 c = search rules

@@ -13,7 +13,7 @@ overflow_cast-result : tie.Need-overflow_cast-result
 overflow_cast-result c = search rules
 
 overflow_sub-result : tie.Need-overflow_sub-result
-overflow_sub-result c = difference_fits c.args.limit c.pre
+overflow_sub-result c = difference_fits c.args.limit c.requires
 
 overflow_cast-result-2 : tie.Need-overflow_cast-result-2
 overflow_cast-result-2 c = search rules
@@ -23,7 +23,7 @@ negated zero = refl
 negated (suc n) = refl
 
 returns : tie.Need-returns
-returns c = let n = c.args.limit in λ i. record { from = (minus_back n c.pre ∙ negated n) i; to = plain_back n c.pre i }
+returns c = let n = c.args.limit in λ i. record { from = (minus_back n c.requires ∙ negated n) i; to = plain_back n c.requires i }
 
 pub around_spec : {M : Type 1} → statement M
 around_spec = tie.close (tie.spec overflow_cast-result overflow_sub-result overflow_cast-result-2 returns)

@@ -9,7 +9,7 @@ use Rattle.formats.proofs.ranges.is_inside.Statement.{statement}
 use Rattle.formats.proofs.ranges.is_inside.Tie as tie
 
 returns-then-number-ge-MAGNITUDE_CAP : tie.Need-returns-then-number-ge-MAGNITUDE_CAP
-returns-then-number-ge-MAGNITUDE_CAP c = at_cap c.args.range c.args.number c.pre c.if-number-ge-MAGNITUDE_CAP.taken
+returns-then-number-ge-MAGNITUDE_CAP c = at_cap c.args.range c.args.number c.requires c.if-number-ge-MAGNITUDE_CAP.taken
 
 value-z-requires : tie.Need-value-z-requires
 value-z-requires c κs = search rules

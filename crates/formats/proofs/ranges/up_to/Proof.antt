@@ -9,7 +9,7 @@ overflow_cast-result : tie.Need-overflow_cast-result
 overflow_cast-result c = search rules
 
 returns : tie.Need-returns
-returns c = λ i. record { from = pos 1; to = plain_back c.args.limit c.pre i }
+returns c = λ i. record { from = pos 1; to = plain_back c.args.limit c.requires i }
 
 pub up_to_spec : {M : Type 1} → statement M
 up_to_spec = tie.close (tie.spec overflow_cast-result returns)

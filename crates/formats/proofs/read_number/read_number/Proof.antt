@@ -50,7 +50,7 @@ enum_told-1 c = search rules
 returns-in_default : tie.Need-returns-in_default
 returns-in_default c =
     let a = c.args in
-    number_wrong a.which a.key.now a.range a.text.now a.here (wrong_line a.key.now 1 a.text.now a.here.at a.here.line (sym c.enum_told-1.given.1 ∙ c.read_line.ensures))
+    number_wrong a.which a.key.now a.range a.text.now a.here (wrong_line a.key.now 1 a.text.now a.here.at a.here.line (sym c.in_default.is ∙ c.read_line.ensures))
 
 there : (t : tie.In-AsDue) → (Spelt (numbers t) (next t).at ≡ line_at (here t).at (line_in (key t) 1 (drop (here t).at (text t)))) × ((next t).line ≡ (here t).line + 1)
 there t = right_line (key t) 1 (text t) (here t).at (here t).line (numbers t) (next t) (sym t.before.numbers.given.1 ∙ t.before.before.before.read_line.ensures)

@@ -57,7 +57,7 @@ enum_told-1 c = search rules
 returns-in_default : tie.Need-returns-in_default
 returns-in_default c =
     let a = c.args in
-    due_wrong InNet a.here.line a.key.now (both a.range) a.text.now a.here.at (wrong_line a.key.now 2 a.text.now a.here.at a.here.line (sym c.enum_told-1.given.1 ∙ c.read_line.ensures))
+    due_wrong InNet a.here.line a.key.now (both a.range) a.text.now a.here.at (wrong_line a.key.now 2 a.text.now a.here.at a.here.line (sym c.in_default.is ∙ c.read_line.ensures))
 
 there : (t : tie.In-AsDue) → (Spelt (numbers t) (next t).at ≡ line_at (here t).at (line_in (key t) 2 (drop (here t).at (text t)))) × ((next t).line ≡ (here t).line + 1)
 there t = right_line (key t) 2 (text t) (here t).at (here t).line (numbers t) (next t) (sym t.before.numbers.given.1 ∙ t.before.before.before.read_line.ensures)
@@ -77,7 +77,7 @@ line c = c.before.before.before.before
 taken : (c : tie.After-second-1) → Taken (key (line c)) (both (range (line c))) (text (line c)) (here (line c)).at (numbers (line c)) (next (line c)).at
 taken c =
     let e = c in
-    let n = (start (line c)).pre.2 in
+    let n = (start (line c)).requires.2 in
     record {
       few = omega arith;
       spelt = (there (line c)).0;
@@ -97,7 +97,7 @@ returns c =
     let t = line e.before.before in
     let v = c.value in
     let w = c.value-2 in
-    pair_taken (key t) (range t) (text t) (here t) (numbers t) (next t) (taken e.before.before) (there t).1 (start t).pre.0 _ _ (to_z-of_z (fit v.result v.ok) ∙ v.ensures) (to_z-of_z (fit w.result w.ok) ∙ w.ensures)
+    pair_taken (key t) (range t) (text t) (here t) (numbers t) (next t) (taken e.before.before) (there t).1 (start t).requires.0 _ _ (to_z-of_z (fit v.result v.ok) ∙ v.ensures) (to_z-of_z (fit w.result w.ok) ∙ w.ensures)
 
 pub read_pair_spec : {M : Type 1} → statement M
 read_pair_spec =

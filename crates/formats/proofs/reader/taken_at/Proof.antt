@@ -19,7 +19,7 @@ enum_told-1 c = search rules
 returns-in_default : tie.Need-returns-in_default
 returns-in_default c =
     let a = c.args in
-    not_due a.at a.line (line_in a.key.now a.count (drop a.at a.text.now)) (sym c.enum_told-1.given.1 ∙ c.line_at.ensures)
+    not_due a.at a.line (line_in a.key.now a.count (drop a.at a.text.now)) (sym c.in_default.is ∙ c.line_at.ensures)
 
 overflow_add-next : tie.Need-overflow_add-next
 overflow_add-next c = search rules
@@ -27,7 +27,7 @@ overflow_add-next c = search rules
 returns : tie.Need-returns
 returns c =
     let a = c.args in
-    as_due a.at a.line (line_in a.key.now a.count (drop a.at a.text.now)) _ _ (sym c.numbers-1.given.1 ∙ c.line_at.ensures)
+    as_due a.at a.line (line_in a.key.now a.count (drop a.at a.text.now)) _ _ (sym c.in-Spelt.is ∙ c.line_at.ensures)
 
 pub taken_at_spec : {M : Type 1} → statement M
 taken_at_spec =

@@ -66,52 +66,52 @@ enum_told-in-OnlySink : tie.Need-enum_told-in-OnlySink
 enum_told-in-OnlySink c = search rules
 
 returns-in-TooLong : tie.Need-returns-in-TooLong
-returns-in-TooLong c = (λ i. record { number = 1; text = c.text_number.ensures i; line = 0 }) ∙ sym (ap told c.refusal-1.given.1)
+returns-in-TooLong c = (λ i. record { number = 1; text = c.text_number.ensures i; line = 0 }) ∙ sym (ap told c.in-TooLong.is)
 
 returns-in-NotDue : tie.Need-returns-in-NotDue
-returns-in-NotDue c = (λ i. record { number = 2; text = c.text_number-in-NotDue.ensures i; line = c.refusal-in-NotDue-1.given.0.1.0 }) ∙ sym (ap told c.refusal-in-NotDue-1.given.1)
+returns-in-NotDue c = (λ i. record { number = 2; text = c.text_number-in-NotDue.ensures i; line = c.in-NotDue.line }) ∙ sym (ap told c.in-NotDue.is)
 
 returns-in-OutOfRange : tie.Need-returns-in-OutOfRange
-returns-in-OutOfRange c = (λ i. record { number = 3; text = c.text_number-in-OutOfRange.ensures i; line = c.refusal-in-OutOfRange-1.given.0.1.0 }) ∙ sym (ap told c.refusal-in-OutOfRange-1.given.1)
+returns-in-OutOfRange c = (λ i. record { number = 3; text = c.text_number-in-OutOfRange.ensures i; line = c.in-OutOfRange.line }) ∙ sym (ap told c.in-OutOfRange.is)
 
 returns-in-BytesFollow : tie.Need-returns-in-BytesFollow
-returns-in-BytesFollow c = (λ i. record { number = 4; text = c.text_number-in-BytesFollow.ensures i; line = c.refusal-in-BytesFollow-1.given.0.1.0 }) ∙ sym (ap told c.refusal-in-BytesFollow-1.given.1)
+returns-in-BytesFollow c = (λ i. record { number = 4; text = c.text_number-in-BytesFollow.ensures i; line = c.in-BytesFollow.line }) ∙ sym (ap told c.in-BytesFollow.is)
 
 returns-in-Unreachable : tie.Need-returns-in-Unreachable
-returns-in-Unreachable c = sym (ap told c.enum_told-1.given.1)
+returns-in-Unreachable c = sym (ap told c.in-Unreachable.is)
 
 returns-in-TooShort : tie.Need-returns-in-TooShort
-returns-in-TooShort c = sym (ap told c.enum_told-in-TooShort-1.given.1)
+returns-in-TooShort c = sym (ap told c.in-TooShort.is)
 
 returns-in-OtherCount : tie.Need-returns-in-OtherCount
-returns-in-OtherCount c = sym (ap told c.enum_told-in-OtherCount-1.given.1)
+returns-in-OtherCount c = sym (ap told c.in-OtherCount.is)
 
 returns-in-SinkParent : tie.Need-returns-in-SinkParent
-returns-in-SinkParent c = sym (ap told c.refusal-in-SinkParent-1.given.1)
+returns-in-SinkParent c = sym (ap told c.in-SinkParent.is)
 
 returns-in-WrongChildren : tie.Need-returns-in-WrongChildren
-returns-in-WrongChildren c = sym (ap told c.refusal-in-WrongChildren-1.given.1)
+returns-in-WrongChildren c = sym (ap told c.in-WrongChildren.is)
 
 returns-in-NotReached : tie.Need-returns-in-NotReached
-returns-in-NotReached c = sym (ap told c.refusal-in-NotReached-1.given.1)
+returns-in-NotReached c = sym (ap told c.in-NotReached.is)
 
 returns-in-OtherSlack : tie.Need-returns-in-OtherSlack
-returns-in-OtherSlack c = sym (ap told c.enum_told-in-OtherSlack-1.given.1)
+returns-in-OtherSlack c = sym (ap told c.in-OtherSlack.is)
 
 returns-in-OtherWire : tie.Need-returns-in-OtherWire
-returns-in-OtherWire c = sym (ap told c.enum_told-in-OtherWire-1.given.1)
+returns-in-OtherWire c = sym (ap told c.in-OtherWire.is)
 
 returns-in-FarPin : tie.Need-returns-in-FarPin
-returns-in-FarPin c = sym (ap told c.refusal-in-FarPin-1.given.1)
+returns-in-FarPin c = sym (ap told c.in-FarPin.is)
 
 returns-in-NotScored : tie.Need-returns-in-NotScored
-returns-in-NotScored c = sym (ap told c.enum_told-in-NotScored-1.given.1)
+returns-in-NotScored c = sym (ap told c.in-NotScored.is)
 
 returns-in-NotASink : tie.Need-returns-in-NotASink
-returns-in-NotASink c = sym (ap told c.enum_told-in-NotASink-1.given.1)
+returns-in-NotASink c = sym (ap told c.in-NotASink.is)
 
 returns-in-OnlySink : tie.Need-returns-in-OnlySink
-returns-in-OnlySink c = sym (ap told c.enum_told-in-OnlySink-1.given.1)
+returns-in-OnlySink c = sym (ap told c.in-OnlySink.is)
 
 pub tell_spec : {M : Type 1} → statement M
 tell_spec =

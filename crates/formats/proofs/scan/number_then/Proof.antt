@@ -17,7 +17,7 @@ enum_told-1 c = search rules
 returns-in_default : tie.Need-returns-in_default
 returns-in_default c =
     let a = c.args in
-    then_wrong a.text.now a.at a.stop (sym c.enum_told-1.given.1 ∙ c.number_at.ensures)
+    then_wrong a.text.now a.at a.stop (sym c.in_default.is ∙ c.number_at.ensures)
 
 returns-then-text-next : tie.Need-returns-then-text-next
 returns-then-text-next c =

@@ -94,7 +94,7 @@ shape_of-slacks-in-NotAccepted c = search rules
 returns-in-NotAccepted : tie.Need-returns-in-NotAccepted
 returns-in-NotAccepted c =
     let s = c in
-    judged_refused (net s.before.before.before.before.before.before.before.before.before.before.before.before.before.before.before.before.before.before.before.before.before.before.before.before.before.before.before) s.args.listing.now s.args.wanted c.refusal-1.given.0.0 (rw c.refusal-1.given.1 at c.accept.ensures.0)
+    judged_refused (net s.before.before.before.before.before.before.before.before.before.before.before.before.before.before.before.before.before.before.before.before.before.before.before.before.before.before.before) s.args.listing.now s.args.wanted c.in-NotAccepted.refusal (rw c.in-NotAccepted.is at c.accept.ensures.0)
 
 shape_of-xs-else-not-wanted : tie.Need-shape_of-xs-else-not-wanted
 shape_of-xs-else-not-wanted c = search rules

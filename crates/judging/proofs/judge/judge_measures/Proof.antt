@@ -15,10 +15,10 @@ enum_known-refusal : tie.Need-enum_known-refusal
 enum_known-refusal c = search rules
 
 returns-in-Judged : tie.Need-returns-in-Judged
-returns-in-Judged c = ap measures_of (sym c.slack-1.given.1 ∙ c.judge_texts.ensures) ∙ measures_told _
+returns-in-Judged c = ap measures_of (sym c.in-Judged.is ∙ c.judge_texts.ensures) ∙ measures_told _
 
 returns-in-JudgeRefused : tie.Need-returns-in-JudgeRefused
-returns-in-JudgeRefused c = ap measures_of (sym c.refusal-1.given.1 ∙ c.judge_texts.ensures) ∙ measures_told _
+returns-in-JudgeRefused c = ap measures_of (sym c.in-JudgeRefused.is ∙ c.judge_texts.ensures) ∙ measures_told _
 
 pub judge_measures_spec : {M : Type 1} → statement M
 judge_measures_spec =

@@ -23,7 +23,7 @@ netRead c =
     net_of a.header a.n l.0 l.1.0 l.1.1.0
 
 read : (c : tie.In_default) → read_net c.args.net.now ≡ value (netRead c)
-read c = let s = c in net_of_lem _ _ (s.requires.0.0 ∙ (rw c.enum_told-1.given.1 at (c.read_rest.ensures s.args.header)))
+read c = let s = c in net_of_lem _ _ (s.requires.0.0 ∙ (rw c.in_default.is at (c.read_rest.ensures s.args.header)))
 
 read_rest-requires : tie.Need-read_rest-requires
 read_rest-requires c κs = search rules
@@ -46,7 +46,7 @@ shape_of-own-in-NetRefused c = search rules
 returns-in-NetRefused : tie.Need-returns-in-NetRefused
 returns-in-NetRefused c =
     let s = c in
-    refused_for _ _ _ (judge_refused _ _ (both_refuse _ _ (s.requires.0.0 ∙ (rw c.refusal-1.given.1 at (c.read_rest.ensures s.args.header)))) _)
+    refused_for _ _ _ (judge_refused _ _ (both_refuse _ _ (s.requires.0.0 ∙ (rw c.in-NetRefused.is at (c.read_rest.ensures s.args.header)))) _)
 
 enum_told-1 : tie.Need-enum_told-1
 enum_told-1 c = search rules

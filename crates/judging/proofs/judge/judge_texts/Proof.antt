@@ -17,20 +17,20 @@ enum_known-header c = search rules
 
 judge_small-requires : tie.Need-judge_small-requires
 judge_small-requires c κs =
-    let w = rw c.header-1.given.1 at c.read_head.ensures in
+    let w = rw c.in-HeadRead.is at c.read_head.ensures in
     (w.0, (c.if-n-le16.true, w.1.1, w.1.2, w.1.3))
 
 judge_medium-requires : tie.Need-judge_medium-requires
 judge_medium-requires c κs =
-    let w = rw c.header-1.given.1 at c.read_head.ensures in
+    let w = rw c.in-HeadRead.is at c.read_head.ensures in
     (w.0, (c.if-n-le64.true, w.1.1, w.1.2, w.1.3))
 
 judge_large-requires : tie.Need-judge_large-requires
 judge_large-requires c κs =
-    rw c.header-1.given.1 at c.read_head.ensures
+    rw c.in-HeadRead.is at c.read_head.ensures
 
 returns-in-HeadRefused : tie.Need-returns-in-HeadRefused
-returns-in-HeadRefused c = refused_for _ _ _ (judge_refused _ _ (both_refuse _ _ (rw c.refusal-1.given.1 at c.read_head.ensures)) _)
+returns-in-HeadRefused c = refused_for _ _ _ (judge_refused _ _ (both_refuse _ _ (rw c.in-HeadRefused.is at c.read_head.ensures)) _)
 
 returns-then-n-le16 : tie.Need-returns-then-n-le16
 returns-then-n-le16 c = search rules

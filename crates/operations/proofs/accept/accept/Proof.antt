@@ -28,10 +28,10 @@ sized s = let a = s.args in size_is a.header a.n a.xs.now a.ys.now a.required.no
 abbrev listing : tie.In-ListingHeld-2 → Listing
 listing c =
     let l = c.read_listing.new in
-    listing_held c.slack-1.given.0.0 c.slack-1.given.0.1.0 c.args.n l.1.1.0 l.1.1.1.0 l.1.1.1.1.0
+    listing_held c.in-ListingHeld.slack c.in-ListingHeld.wire c.args.n l.1.1.0 l.1.1.1.0 l.1.1.1.1.0
 
 read : (c : tie.In-ListingHeld-2) → read_listing c.args.n c.args.listing.now ≡ value (listing c)
-read c = rw c.slack-1.given.1 at c.read_listing.ensures.0
+read c = rw c.in-ListingHeld.is at c.read_listing.ensures.0
 
 read_listing-requires : tie.Need-read_listing-requires
 read_listing-requires c κs =
@@ -79,7 +79,7 @@ returns-in-ListingRefused : tie.Need-returns-in-ListingRefused
 returns-in-ListingRefused c =
     let s = c in
     let r = c.read_listing in
-    (listing_turned (net s.before.before.before.before.before.before.before.before.before.before.before.before.before.before.before.before) s.args.n s.args.listing.now c.refusal-1.given.0.0 (sized s) (rw c.refusal-1.given.1 at r.ensures.0), r.ensures.1)
+    (listing_turned (net s.before.before.before.before.before.before.before.before.before.before.before.before.before.before.before.before) s.args.n s.args.listing.now c.in-ListingRefused.refusal (sized s) (rw c.in-ListingRefused.is at r.ensures.0), r.ensures.1)
 
 shape_of-xs-in-ListingHeld : tie.Need-shape_of-xs-in-ListingHeld
 shape_of-xs-in-ListingHeld c = search rules

@@ -32,17 +32,17 @@ wrongs s = wrong_children s.args.n (parents_of s.args.n s.args.parents.now)
 abbrev lost : tie.Start → Option ℕ
 lost s = unreached s.args.n (parents_of s.args.n s.args.parents.now)
 
-wrong_one : (c : tie.In-At-2) → wrongs c.before.before.before.before.before.before.before.before.before.before ≡ some c.v-1.given.0.0
-wrong_one c = sym c.wrong_children.ensures ∙ ap found_in c.v-1.given.1
+wrong_one : (c : tie.In-At-2) → wrongs c.before.before.before.before.before.before.before.before.before.before ≡ some c.in-At.v
+wrong_one c = sym c.wrong_children.ensures ∙ ap found_in c.in-At.is
 
 wrong-none : (c : tie.In_default) → wrongs c.before.before.before.before.before.before.before.before.before.before ≡ none
-wrong-none c = sym c.wrong_children.ensures ∙ ap found_in c.enum_told-1.given.1
+wrong-none c = sym c.wrong_children.ensures ∙ ap found_in c.in_default.is
 
-lost-one : (c : tie.In-At-lowest_unreached-2) → lost c.before.before.before.before.before.before.before.before.before.before.before.before.before.before.before.before.before.before.before.before.before.before ≡ some c.v-in-At-lowest_unreached-1.given.0.0
-lost-one c = sym c.lowest_unreached.ensures.0 ∙ ap found_in c.v-in-At-lowest_unreached-1.given.1
+lost-one : (c : tie.In-At-lowest_unreached-2) → lost c.before.before.before.before.before.before.before.before.before.before.before.before.before.before.before.before.before.before.before.before.before.before ≡ some c.in-At-lowest_unreached.v
+lost-one c = sym c.lowest_unreached.ensures.0 ∙ ap found_in c.in-At-lowest_unreached.is
 
 lost-none : (c : tie.In_default-lowest_unreached) → lost c.before.before.before.before.before.before.before.before.before.before.before.before.before.before.before.before.before.before.before.before.before.before ≡ none
-lost-none c = sym c.lowest_unreached.ensures.0 ∙ ap found_in c.enum_told-in_default-lowest_unreached-1.given.1
+lost-none c = sym c.lowest_unreached.ensures.0 ∙ ap found_in c.in_default-lowest_unreached.is
 
 wrong_children-requires : tie.Need-wrong_children-requires
 wrong_children-requires c κs = search rules
@@ -54,7 +54,7 @@ vertex_line-line-requires : tie.Need-vertex_line-line-requires
 vertex_line-line-requires c κs =
     let s = c in
     let p = s.requires.0.1.parents_in_lem in
-    omega (arith, wrong_vertex s.args.n (listing s.before.before.before.before.before.before.before.before.before.before.before).tree.parents c.v-1.given.0.0 p.some (wrong_one c.before), p.few)
+    omega (arith, wrong_vertex s.args.n (listing s.before.before.before.before.before.before.before.before.before.before.before).tree.parents c.in-At.v p.some (wrong_one c.before), p.few)
 
 shape_of-queue-in-At : tie.Need-shape_of-queue-in-At
 shape_of-queue-in-At c = search rules
@@ -62,7 +62,7 @@ shape_of-queue-in-At c = search rules
 returns-in-At : tie.Need-returns-in-At
 returns-in-At c =
     let s = c in
-    wrong_refused (net s.before.before.before.before.before.before.before.before.before.before.before.before) (listing s.before.before.before.before.before.before.before.before.before.before.before.before) s.args.n (sized s) c.v-1.given.0.0 c.vertex_line-line.result (wrong_one c.before.before) c.vertex_line-line.ensures
+    wrong_refused (net s.before.before.before.before.before.before.before.before.before.before.before.before) (listing s.before.before.before.before.before.before.before.before.before.before.before.before) s.args.n (sized s) c.in-At.v c.vertex_line-line.result (wrong_one c.before.before) c.vertex_line-line.ensures
 
 enum_told-1 : tie.Need-enum_told-1
 enum_told-1 c = search rules
@@ -79,7 +79,7 @@ vertex_line-line-requires-in-At-lowest_unreached : tie.Need-vertex_line-line-req
 vertex_line-line-requires-in-At-lowest_unreached c κs =
     let s = c in
     let p = s.requires.0.1.parents_in_lem in
-    omega (arith, lost_vertex s.args.n (listing s.before.before.before.before.before.before.before.before.before.before.before.before.before.before.before.before.before.before.before.before.before.before.before).tree.parents c.v-in-At-lowest_unreached-1.given.0.0 p.some (lost-one c.before), p.few)
+    omega (arith, lost_vertex s.args.n (listing s.before.before.before.before.before.before.before.before.before.before.before.before.before.before.before.before.before.before.before.before.before.before.before).tree.parents c.in-At-lowest_unreached.v p.some (lost-one c.before), p.few)
 
 shape_of-first-in-At-lowest_unreached : tie.Need-shape_of-first-in-At-lowest_unreached
 shape_of-first-in-At-lowest_unreached c = search rules
@@ -93,7 +93,7 @@ shape_of-queue-in-At-lowest_unreached c = search rules
 returns-in-At-lowest_unreached : tie.Need-returns-in-At-lowest_unreached
 returns-in-At-lowest_unreached c =
     let s = c in
-    lost_refused (net s.before.before.before.before.before.before.before.before.before.before.before.before.before.before.before.before.before.before.before.before.before.before.before.before) (listing s.before.before.before.before.before.before.before.before.before.before.before.before.before.before.before.before.before.before.before.before.before.before.before.before) s.args.n (sized s) (wrong-none c.before.before.before.before.before.before.before.before.before.before.before.before.before.before) c.v-in-At-lowest_unreached-1.given.0.0 c.vertex_line-line-in-At-lowest_unreached.result (lost-one c.before.before) c.vertex_line-line-in-At-lowest_unreached.ensures
+    lost_refused (net s.before.before.before.before.before.before.before.before.before.before.before.before.before.before.before.before.before.before.before.before.before.before.before.before) (listing s.before.before.before.before.before.before.before.before.before.before.before.before.before.before.before.before.before.before.before.before.before.before.before.before) s.args.n (sized s) (wrong-none c.before.before.before.before.before.before.before.before.before.before.before.before.before.before) c.in-At-lowest_unreached.v c.vertex_line-line-in-At-lowest_unreached.result (lost-one c.before.before) c.vertex_line-line-in-At-lowest_unreached.ensures
 
 enum_told-in_default-lowest_unreached : tie.Need-enum_told-in_default-lowest_unreached
 enum_told-in_default-lowest_unreached c = search rules
@@ -101,7 +101,7 @@ enum_told-in_default-lowest_unreached c = search rules
 accept_stated-requires : tie.Need-accept_stated-requires
 accept_stated-requires c κs =
     let p = c.requires in
-    (p.0, (c.lowest_unreached.ensures.1 (ap found_in c.enum_told-in_default-lowest_unreached-1.given.1), p.1.3))
+    (p.0, (c.lowest_unreached.ensures.1 (ap found_in c.in_default-lowest_unreached.is), p.1.3))
 
 shape_of-first : tie.Need-shape_of-first
 shape_of-first c = search rules

@@ -53,7 +53,7 @@ returns-in-NotAccepted c =
     let s = c in
     let a = s.args in
     refused_answers a.net_out.now a.listing_out.now _ _
-    (listing_turned (net s.before.before.before.before.before.before.before.before.before.before.before.before.before.before.before.before.before.before.before.before.before.before.before.before.before.before.before.before.before) (weights s.before.before.before.before.before.before.before.before.before.before.before.before.before.before.before.before.before.before.before.before.before.before.before.before.before.before.before.before.before) a.listing.now a.s _ _ c.refusal-1.given.0.0 (sym (rw c.refusal-1.given.1 at c.accept.ensures.0)))
+    (listing_turned (net s.before.before.before.before.before.before.before.before.before.before.before.before.before.before.before.before.before.before.before.before.before.before.before.before.before.before.before.before.before) (weights s.before.before.before.before.before.before.before.before.before.before.before.before.before.before.before.before.before.before.before.before.before.before.before.before.before.before.before.before.before) a.listing.now a.s _ _ c.in-NotAccepted.refusal (sym (rw c.in-NotAccepted.is at c.accept.ensures.0)))
 
 enum_told-1 : tie.Need-enum_told-1
 enum_told-1 c = search rules

@@ -14,13 +14,13 @@ enum_known-header : tie.Need-enum_known-header
 enum_known-header c = search rules
 
 delete_read-requires : tie.Need-delete_read-requires
-delete_read-requires c κs = rw c.header-1.given.1 at c.read_head.ensures
+delete_read-requires c κs = rw c.in-HeadRead.is at c.read_head.ensures
 
 returns-in-HeadRefused : tie.Need-returns-in-HeadRefused
 returns-in-HeadRefused c =
     let a = c.args in
     let o = outputs_are a.net.now a.listing.now a.sink a.net_out.now a.listing_out.now _ _ _
-    (refused_answers a.net_out.now a.listing_out.now _ _ (net_turned a.net.now a.listing.now a.sink _ _ _ (rw c.refusal-1.given.1 at c.read_head.ensures))) in
+    (refused_answers a.net_out.now a.listing_out.now _ _ (net_turned a.net.now a.listing.now a.sink _ _ _ (rw c.in-HeadRefused.is at c.read_head.ensures))) in
     (o.0, (o.1, o.2))
 
 shape_of-net_out : tie.Need-shape_of-net_out

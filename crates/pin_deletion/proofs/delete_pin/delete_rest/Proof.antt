@@ -30,7 +30,7 @@ returns-in-NetRefused : tie.Need-returns-in-NetRefused
 returns-in-NetRefused c =
     let s = c in
     let a = s.args in
-    refused_answers a.net_out.now a.listing_out.now _ _ (net_turned a.net.now a.listing.now a.s _ _ _ (s.requires.0.0 ∙ (rw c.refusal-1.given.1 at (c.read_rest.ensures a.header))))
+    refused_answers a.net_out.now a.listing_out.now _ _ (net_turned a.net.now a.listing.now a.s _ _ _ (s.requires.0.0 ∙ (rw c.in-NetRefused.is at (c.read_rest.ensures a.header))))
 
 enum_told-1 : tie.Need-enum_told-1
 enum_told-1 c = search rules
@@ -43,7 +43,7 @@ delete_listed-requires c κs =
     let l = r.new.xs in
     let k = r.auto.xs in
     let p = s.requires.1 in
-    let read = s.requires.0.0 ∙ (rw c.enum_told-1.given.1 at (r.ensures a.header)) in (
+    let read = s.requires.0.0 ∙ (rw c.in_default.is at (r.ensures a.header)) in (
       (
         read_net_holds a.header a.n l.0 l.1.0 l.1.1.0 a.net.now (net_of_lem a.net.now _ read) (omega (arith, k.0, p.0)) (omega (arith, k.1.0, p.0)) (omega (arith, k.1.1.0, p.0)),
         read_weights_hold a.header a.n l.0 l.1.0 l.1.1.0 a.net.now l.1.1.1.0 read (omega (arith, k.1.1.1.0, p.0)),
@@ -90,7 +90,7 @@ returns c =
     let s = c in
     let a = s.args in
     same_answers a.net_out.now a.listing_out.now _ _ _ _ _
-    (sym (net_read a.net.now a.listing.now a.s _ _ _ _ (s.requires.0.0 ∙ (rw c.enum_told-1.given.1 at (c.read_rest.ensures a.header)))))
+    (sym (net_read a.net.now a.listing.now a.s _ _ _ _ (s.requires.0.0 ∙ (rw c.in_default.is at (c.read_rest.ensures a.header)))))
     c.delete_listed.ensures
 
 pub delete_rest_spec : {M : Type 1} → statement M

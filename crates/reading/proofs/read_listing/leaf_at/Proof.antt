@@ -53,7 +53,7 @@ is_exactly-requires : tie.Need-is_exactly-requires
 is_exactly-requires c =
     let b = c in
     vertex_wrong leaf_key [] b.args.n b.args.k b.args.text.now b.args.here.at b.args.here.line b.requires.1
-    (sym c.enum_told-1.given.1 ∙ c.read_line.ensures)
+    (sym c.in_default.is ∙ c.read_line.ensures)
     c.not_due.result c.not_due.ensures
 
 -- what the reader took

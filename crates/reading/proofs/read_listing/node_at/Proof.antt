@@ -55,8 +55,8 @@ returns-in_default c κs = search rules
 is_exactly-requires : tie.Need-is_exactly-requires
 is_exactly-requires c =
     let b = c in
-    vertex_wrong node_key position_ranges b.args.n b.args.k b.args.text.now b.args.here.at b.args.here.line b.pre.1
-    (sym c.enum_told-1.given.1 ∙ c.read_line.ensures)
+    vertex_wrong node_key position_ranges b.args.n b.args.k b.args.text.now b.args.here.at b.args.here.line b.requires.1
+    (sym c.in_default.is ∙ c.read_line.ensures)
     c.not_due.result c.not_due.ensures
 
 -- what the reader took
@@ -72,7 +72,7 @@ returns-then-not-is_exactly c κs = search rules
 node_in_range-requires : tie.Need-node_in_range-requires
 node_in_range-requires c =
     let t = c in
-    vertex_other node_key position_ranges (start t.before.before.before).args.n (start t.before.before.before).args.k (text t.before.before.before) (start t.before.before.before).args.here.at (start t.before.before.before).args.here.line (start t.before.before.before).pre.1
+    vertex_other node_key position_ranges (start t.before.before.before).args.n (start t.before.before.before).args.k (text t.before.before.before) (start t.before.before.before).args.here.at (start t.before.before.before).args.here.line (start t.before.before.before).requires.1
     (omega arith) (numbers t.before.before.before) (end t.before.before.before) (took t) (λ z h. sym (not-true _ c.if-not-is_exactly.taken) ∙ c.is_exactly.ensures z h)
     c.not_due-then-not-is_exactly.result c.not_due-then-not-is_exactly.ensures
 
@@ -96,7 +96,7 @@ value-requires c =
     let r = c in
     let e = r in
     let t = e in
-    vertex_out node_key position_ranges (start t.before.before.before.before.before.before.before.before).args.n (start t.before.before.before.before.before.before.before.before).args.k (text t.before.before.before.before.before.before.before.before) (start t.before.before.before.before.before.before.before.before).args.here.at (start t.before.before.before.before.before.before.before.before).args.here.line (start t.before.before.before.before.before.before.before.before).pre.1
+    vertex_out node_key position_ranges (start t.before.before.before.before.before.before.before.before).args.n (start t.before.before.before.before.before.before.before.before).args.k (text t.before.before.before.before.before.before.before.before) (start t.before.before.before.before.before.before.before.before).args.here.at (start t.before.before.before.before.before.before.before.before).args.here.line (start t.before.before.before.before.before.before.before.before).requires.1
     (omega arith) (numbers t.before.before.before.before.before.before.before.before) (end t.before.before.before.before.before.before.before.before) (took t) (same e.before.before.before.before.before)
     (failed r.node_in_range.result (ranges (start t.before.before.before.before.before.before.before.before).args.n) (others (numbers t.before.before.before.before.before.before.before.before)) r.node_in_range.ensures (not-true _ c.if-not-node_in_range.taken))
     c.out_of_range.result c.out_of_range.ensures
@@ -110,8 +110,8 @@ inside c =
 small : (c : tie.Else-not-node_in_range) → AllSmall (ranges (start c.before.before.before.before.before).args.n) (others (numbers c.before.before.before.before.before))
 small c =
     let t = c in
-    vertex_small node_key position_ranges (start t.before.before.before.before.before).args.n (start t.before.before.before.before.before).args.k (text t.before.before.before.before.before) (start t.before.before.before.before.before).args.here.at (start t.before.before.before.before.before).args.here.line (start t.before.before.before.before.before).pre.1
-    (omega arith) (numbers t.before.before.before.before.before) (end t.before.before.before.before.before) (took t) (narrow (start t.before.before.before.before.before).args.n (start t.before.before.before.before.before).pre.3) (inside c)
+    vertex_small node_key position_ranges (start t.before.before.before.before.before).args.n (start t.before.before.before.before.before).args.k (text t.before.before.before.before.before) (start t.before.before.before.before.before).args.here.at (start t.before.before.before.before.before).args.here.line (start t.before.before.before.before.before).requires.1
+    (omega arith) (numbers t.before.before.before.before.before) (end t.before.before.before.before.before) (took t) (narrow (start t.before.before.before.before.before).args.n (start t.before.before.before.before.before).requires.3) (inside c)
 
 value-requires-2 : tie.Need-value-requires-2
 value-requires-2 c κs = (small c.before.before.before.before).1.0
@@ -129,8 +129,8 @@ returns-4 c =
     let t = e in
     let x = c.value in
     let y = c.value-2 in
-    vertex_in node_key position_ranges (start t).args.n (start t).args.k (text t) (start t).args.here.at (start t).args.here.line (start t).pre.1
-    (omega arith) (numbers t) (end t) (took t) (same e) (start t).pre.0 (narrow (start t).args.n (start t).pre.3) (inside i)
+    vertex_in node_key position_ranges (start t).args.n (start t).args.k (text t) (start t).args.here.at (start t).args.here.line (start t).requires.1
+    (omega arith) (numbers t) (end t) (took t) (same e) (start t).requires.0 (narrow (start t).args.n (start t).requires.3) (inside i)
     (numbers t).second.mag (rd x.result) (rd y.result)
     (λ j. record {
       parent = value_abs (numbers t).second j;

@@ -42,19 +42,19 @@ abbrev start : tie.In-NumberRead → tie.Start
 start t = t.before.before.before.before.before.before.before
 
 -- the line has a number in its range
-taken : (t : tie.In-NumberRead) → NumberTaken InListing sinks_key (up_to sink_limit) (start t).args.text.now (start t).args.here t.value-1.given.0.0 t.value-1.given.0.1.0
+taken : (t : tie.In-NumberRead) → NumberTaken InListing sinks_key (up_to sink_limit) (start t).args.text.now (start t).args.here t.in-NumberRead.value t.in-NumberRead.next
 taken t =
     let a = (start t).args in
     let g = t.before.value.given in
     said_taken InListing sinks_key _ (up_to sink_limit) t.before.before.before.before.up_to.ensures a.text.now a.here _ t.before.before.before.read_number.ensures g.0.0 g.0.1.0 g.1
 
 -- so that it is read back as it is
-small : (t : tie.In-NumberRead) → SFits w64 t.value-1.given.0.0
+small : (t : tie.In-NumberRead) → SFits w64 t.in-NumberRead.value
 small t = let b = inside_bounds (up_to sink_limit) t.before.value.given.0.0 (taken t).in_range in omega (arith, whole, b.0, b.1)
 
 returns-then-value-n : tie.Need-returns-then-value-n
 returns-then-value-n c =
-    let z = c.value-1.given.0.0 in
+    let z = c.in-NumberRead.value in
     let b = inside_bounds (up_to sink_limit) z (taken c).in_range in
     rw (to_z-of_z (small c)) (omega (arith, whole, b.0, b.1), omega (arith, whole, nat_abs_is z, b.0, b.1))
 
@@ -62,7 +62,7 @@ returns-in-NumberRefused : tie.Need-returns-in-NumberRefused
 returns-in-NumberRefused c =
     let t = c in
     let a = (start t).args in
-    same_other a.n a.slack.0 a.wire.0 (drop a.here.at a.text.now) a.here.line (start t).requires.1 t.value-1.given.0.0 _ (taken t).read_to.reads
+    same_other a.n a.slack.0 a.wire.0 (drop a.here.at a.text.now) a.here.line (start t).requires.1 t.in-NumberRead.value _ (taken t).read_to.reads
     (λ h. c.if-value-n.true (ap nat_abs (to_z-of_z (small t)) ∙ h))
 
 returns-else-value-n : tie.Need-returns-else-value-n
@@ -78,7 +78,7 @@ returns-3 c =
     let t = c in
     let a = (start t).args in
     record {
-      reads = same_in a.n a.slack.0 a.wire.0 (drop a.here.at a.text.now) a.here.line (start t).requires.1 t.value-1.given.0.0 _ (taken t).read_to.reads (sym (ap nat_abs (to_z-of_z (small t))) ∙ c.if-value-n.false);
+      reads = same_in a.n a.slack.0 a.wire.0 (drop a.here.at a.text.now) a.here.line (start t).requires.1 t.in-NumberRead.value _ (taken t).read_to.reads (sym (ap nat_abs (to_z-of_z (small t))) ∙ c.if-value-n.false);
       within = (taken t).read_to.within;
       line_is = omega (arith, (taken t).read_to.line_is, (start t).requires.1);
     }

@@ -39,14 +39,14 @@ abbrev start : tie.In-NumberRead → tie.Start
 start t = t.before.before.before.before.before.before.before
 
 -- the line has a number in its range
-taken : (t : tie.In-NumberRead) → NumberTaken InListing slack_key (around slack_limit) (start t).args.text.now (record { at = 0; line = 1 }) t.value-1.given.0.0 t.value-1.given.0.1.0
+taken : (t : tie.In-NumberRead) → NumberTaken InListing slack_key (around slack_limit) (start t).args.text.now (record { at = 0; line = 1 }) t.in-NumberRead.value t.in-NumberRead.next
 taken t =
     let a = (start t).args in
     let g = t.before.value.given in
     said_taken InListing slack_key _ (around slack_limit) t.before.before.before.before.around.ensures a.text.now (record { at = 0; line = 1 }) _ t.before.before.before.read_number.ensures g.0.0 g.0.1.0 g.1
 
 -- so that it is read back as it is
-small : (t : tie.In-NumberRead) → SFits w64 t.value-1.given.0.0
+small : (t : tie.In-NumberRead) → SFits w64 t.in-NumberRead.value
 small t =
     let b = inside_bounds (around slack_limit) t.before.value.given.0.0 (taken t).in_range in
     omega (arith, whole, b.0, b.1, neg_up (pos slack_limit), neg_dn (pos slack_limit))
@@ -71,7 +71,7 @@ returns-2 c =
     let t = c in
     let a = (start t).args in
     stated_by _ _ a.text.now c.read_total.result
-    (slack_read a.n a.text.now t.value-1.given.0.0 _ _ (taken t).read_to.reads (c.of.ensures ∙ to_z-of_z (small t)))
+    (slack_read a.n a.text.now t.in-NumberRead.value _ _ (taken t).read_to.reads (c.of.ensures ∙ to_z-of_z (small t)))
     c.read_total.ensures
 
 pub read_stated_spec : {M : Type 1} → statement M

@@ -42,19 +42,19 @@ abbrev start : tie.In-NumberRead → tie.Start
 start t = t.before.before.before.before.before.before.before
 
 -- the line has a number in its range
-taken : (t : tie.In-NumberRead) → NumberTaken InListing wire_key (from_zero wire_limit) (start t).args.text.now (start t).args.here t.value-1.given.0.0 t.value-1.given.0.1.0
+taken : (t : tie.In-NumberRead) → NumberTaken InListing wire_key (from_zero wire_limit) (start t).args.text.now (start t).args.here t.in-NumberRead.value t.in-NumberRead.next
 taken t =
     let a = (start t).args in
     let g = t.before.value.given in
     said_taken InListing wire_key _ (from_zero wire_limit) t.before.before.before.before.from_zero.ensures a.text.now a.here _ t.before.before.before.read_number.ensures g.0.0 g.0.1.0 g.1
 
 -- so that it is read back as it is
-small : (t : tie.In-NumberRead) → SFits w64 t.value-1.given.0.0
+small : (t : tie.In-NumberRead) → SFits w64 t.in-NumberRead.value
 small t = let b = inside_bounds (from_zero wire_limit) t.before.value.given.0.0 (taken t).in_range in omega (arith, whole, b.0, b.1)
 
 of-requires : tie.Need-of-requires
 of-requires c =
-    let z = c.value-1.given.0.0 in
+    let z = c.in-NumberRead.value in
     let b = inside_bounds (from_zero wire_limit) z (taken c).in_range in
     rw (to_z-of_z (small c)) (omega (arith, whole, b.0, b.1), omega (arith, whole, nat_abs_is z, b.0, b.1))
 
@@ -79,7 +79,7 @@ returns-2 c =
     let t = c in
     let a = (start t).args in
     stated_by _ _ a.text.now c.read_same.result
-    (total_read a.n a.slack.0 (drop a.here.at a.text.now) a.here.line (start t).requires.1 t.value-1.given.0.0 _ _ (taken t).read_to.reads
+    (total_read a.n a.slack.0 (drop a.here.at a.text.now) a.here.line (start t).requires.1 t.in-NumberRead.value _ _ (taken t).read_to.reads
     (c.of.ensures ∙ ap nat_abs (to_z-of_z (small t))))
     c.read_same.ensures
 

@@ -41,13 +41,13 @@ of-requires c = search rules
 abbrev next : tie.In-NumberRead → Place
 next t = t.before.value.given.0.1.0
 
-taken : (t : tie.In-NumberRead) → NumberTaken InNet branch_key (up_to branch_limit) t.args.text.now t.args.here t.value-1.given.0.0 (next t)
+taken : (t : tie.In-NumberRead) → NumberTaken InNet branch_key (up_to branch_limit) t.args.text.now t.args.here t.in-NumberRead.value (next t)
 taken t =
     let a = t.before.before.before.before.before.before.before.args in
     let g = t.before.value.given in
     said_taken InNet branch_key _ (up_to branch_limit) t.before.before.before.before.up_to.ensures a.text.now a.here _ t.before.before.before.read_number.ensures g.0.0 g.0.1.0 g.1
 
-small : (t : tie.In-NumberRead) → SFits w64 t.value-1.given.0.0
+small : (t : tie.In-NumberRead) → SFits w64 t.in-NumberRead.value
 small t = let b = inside_bounds (up_to branch_limit) t.before.value.given.0.0 (taken t).in_range in omega (arith, whole, b.0, b.1)
 
 read_wire-requires : tie.Need-read_wire-requires
@@ -72,7 +72,7 @@ returns-2 c =
     let a = b.args in
     let t = c in
     says_by a.text.now c.read_wire.result
-    (branch_read a.text.now a.here a.root b.requires.1 t.value-1.given.0.0 (next t) (taken t) _ (c.of.ensures ∙ to_z-of_z (small t)))
+    (branch_read a.text.now a.here a.root b.requires.1 t.in-NumberRead.value (next t) (taken t) _ (c.of.ensures ∙ to_z-of_z (small t)))
     c.read_wire.ensures
 
 pub read_branch_spec : {M : Type 1} → statement M

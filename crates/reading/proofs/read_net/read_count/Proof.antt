@@ -42,18 +42,18 @@ overflow_cast-result c = search rules
 abbrev next : tie.In-NumberRead → Place
 next t = t.before.value.given.0.1.0
 
-taken : (t : tie.In-NumberRead) → NumberTaken InNet sinks_key (up_to sink_limit) t.args.text.now t.args.here t.value-1.given.0.0 (next t)
+taken : (t : tie.In-NumberRead) → NumberTaken InNet sinks_key (up_to sink_limit) t.args.text.now t.args.here t.in-NumberRead.value (next t)
 taken t =
     let a = t.before.before.before.before.before.before.before.args in
     let g = t.before.value.given in
     said_taken InNet sinks_key _ (up_to sink_limit) t.before.before.before.before.up_to.ensures a.text.now a.here _ t.before.before.before.read_number.ensures g.0.0 g.0.1.0 g.1
 
-small : (t : tie.In-NumberRead) → SFits w64 t.value-1.given.0.0
+small : (t : tie.In-NumberRead) → SFits w64 t.in-NumberRead.value
 small t = let b = inside_bounds (up_to sink_limit) t.before.value.given.0.0 (taken t).in_range in omega (arith, whole, b.0, b.1)
 
 returns-in-NumberRefused : tie.Need-returns-in-NumberRefused
 returns-in-NumberRefused c =
-    let z = c.value-1.given.0.0 in
+    let z = c.in-NumberRead.value in
     let b = inside_bounds (up_to sink_limit) z (taken c).in_range in
     rw (to_z-of_z (small c)) (omega (arith, whole, b.0, b.1), omega (arith, whole, nat_abs_is z, b.0, b.1))
 
@@ -68,7 +68,7 @@ returns-2 : tie.Need-returns-2
 returns-2 c =
     let b = c in
     let a = b.args in
-    count_read a.text.now a.here a.root a.header b.requires.1 b.requires.2 c.value-1.given.0.0 (next c) (taken c) _ (ap nat_abs (to_z-of_z (small c)))
+    count_read a.text.now a.here a.root a.header b.requires.1 b.requires.2 c.in-NumberRead.value (next c) (taken c) _ (ap nat_abs (to_z-of_z (small c)))
 
 pub read_count_spec : {M : Type 1} → statement M
 read_count_spec =

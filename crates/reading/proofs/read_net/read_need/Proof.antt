@@ -41,13 +41,13 @@ of-need-requires c = search rules
 abbrev next : tie.In-NumberRead → Place
 next t = t.before.value.given.0.1.0
 
-taken : (t : tie.In-NumberRead) → NumberTaken InNet need_key (around need_limit) t.args.text.now t.args.here t.value-1.given.0.0 (next t)
+taken : (t : tie.In-NumberRead) → NumberTaken InNet need_key (around need_limit) t.args.text.now t.args.here t.in-NumberRead.value (next t)
 taken t =
     let a = t.before.before.before.before.before.before.before.args in
     let g = t.before.value.given in
     said_taken InNet need_key _ (around need_limit) t.before.before.before.before.around.ensures a.text.now a.here _ t.before.before.before.read_number.ensures g.0.0 g.0.1.0 g.1
 
-small : (t : tie.In-NumberRead) → SFits w64 t.value-1.given.0.0
+small : (t : tie.In-NumberRead) → SFits w64 t.in-NumberRead.value
 small t = let b = inside_bounds (around need_limit) t.before.value.given.0.0 (taken t).in_range in omega (arith, whole, b.0, b.1)
 
 read_count-requires : tie.Need-read_count-requires
@@ -72,7 +72,7 @@ returns-2 c =
     let a = b.args in
     let t = c in
     says_by a.text.now c.read_count.result
-    (need_read a.text.now a.here a.root (up a.branch.0) a.wire b.requires.1 t.value-1.given.0.0 (next t) (taken t) _ (c.of-need.ensures ∙ to_z-of_z (small t)))
+    (need_read a.text.now a.here a.root (up a.branch.0) a.wire b.requires.1 t.in-NumberRead.value (next t) (taken t) _ (c.of-need.ensures ∙ to_z-of_z (small t)))
     c.read_count.ensures
 
 pub read_need_spec : {M : Type 1} → statement M

@@ -62,7 +62,7 @@ returns-in_default c = search rules
 sink_in_range-requires : tie.Need-sink_in_range-requires
 sink_in_range-requires c =
     let a = c.args in
-    sink_wrong a.root a.text.now a.here (wrong_line sink_key 4 a.text.now a.here.at a.here.line (sym c.enum_told-1.given.1 ∙ c.read_line.ensures))
+    sink_wrong a.root a.text.now a.here (wrong_line sink_key 4 a.text.now a.here.at a.here.line (sym c.in_default.is ∙ c.read_line.ensures))
 
 there : (t : tie.In-AsDue) → (Spelt (numbers t) (next t).at ≡ line_at (here t).at (line_in sink_key 4 (drop (here t).at (text t)))) × ((next t).line ≡ (here t).line + 1)
 there t = right_line sink_key 4 (text t) (here t).at (here t).line (numbers t) (next t) (sym t.before.numbers.given.1 ∙ t.before.before.before.read_line.ensures)
@@ -118,7 +118,7 @@ bounds-xs-s : tie.Need-bounds-xs-s
 bounds-xs-s c =
     let p = start (line (near c)) in
     let g = p.good.1.1.1.1.0 in
-    let b = p.pre.3.0 in
+    let b = p.requires.3.0 in
     search rules
 
 offset_bounds-ys-s : tie.Need-offset_bounds-ys-s
@@ -179,7 +179,7 @@ returns-4 c =
       w = _;
       read_to = record {
         reads = sink_near (root n) (text n) (here n) (numbers n) (next n).at (taken e) _ (x ∙ v.ensures) (y ∙ w.ensures) (sym d.if-is_far.false ∙ d.is_far.ensures);
-        within = (taken_next InNet (taken e) p.pre.0).1;
+        within = (taken_next InNet (taken e) p.requires.0).1;
         line_is = (there n).1;
       };
       xs_is = ap (set p.args.xs.now p.args.s) (ap (λ (z : ℤ). to_z w64 (of_z w64 z)) x ∙ x ∙ v.ensures);

@@ -102,7 +102,7 @@ returns-2 c =
     let b = start t in
     let a = b.args in
     says_by a.text.now c.read_need.result
-    (wire_read a.root (up a.branch.0) a.text.now a.here b.pre.1 (first t) (second t) (next t) (taken t) _
+    (wire_read a.root (up a.branch.0) a.text.now a.here b.requires.1 (first t) (second t) (next t) (taken t) _
     (c.of.ensures ∙ ap nat_abs (to_z-of_z (small (first t) (factors t).0)))
     (c.of-in-PairRead.ensures ∙ ap nat_abs (to_z-of_z (small (second t) (factors t).1))))
     c.read_need.ensures

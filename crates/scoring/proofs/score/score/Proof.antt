@@ -25,7 +25,7 @@ enum_known-slack c = search rules
 -- what judge has measured
 judged : (c : tie.In-AcceptedListing) → let a = c.args in let g = c.slack-1.given in
     (j : Judgement) × ((judge_of a.net.now a.listing.now ≡ value j) × (g.0.0.0 ≡ j.slack) × (g.0.1.0.0 ≡ j.wire))
-judged c = measured_value _ c.slack-1.given.0.0 c.slack-1.given.0.1.0 (sym c.slack-1.given.1 ∙ c.judge_measures.ensures)
+judged c = measured_value _ c.in-AcceptedListing.slack c.in-AcceptedListing.wire (sym c.in-AcceptedListing.is ∙ c.judge_measures.ensures)
 
 score_measures-requires : tie.Need-score_measures-requires
 score_measures-requires c κs =
@@ -35,7 +35,7 @@ score_measures-requires c κs =
 returns-in-NotAccepted : tie.Need-returns-in-NotAccepted
 returns-in-NotAccepted c =
     let s = c in
-    sym (ap score_answer (score_refused s.args.net.now s.args.listing.now s.args.alpha_1024ths s.args.beta_1024ths s.args.cap c.refusal-1.given.0.0 (measured_refused _ _ (sym c.refusal-1.given.1 ∙ c.judge_measures.ensures))))
+    sym (ap score_answer (score_refused s.args.net.now s.args.listing.now s.args.alpha_1024ths s.args.beta_1024ths s.args.cap c.in-NotAccepted.refusal (measured_refused _ _ (sym c.in-NotAccepted.is ∙ c.judge_measures.ensures))))
 
 returns-in-AcceptedListing : tie.Need-returns-in-AcceptedListing
 returns-in-AcceptedListing c =

@@ -23,10 +23,10 @@ module _ (s : tie.Start) (ps : List ℕ) (xs ys rs ws : List ℤ)
 
   module _ (same_p : length ps ≡ length s.args.parents.now) (same_x : length xs ≡ length s.args.xs.now) (same_y : length ys ≡ length s.args.ys.now) where
     net : length rs ≡ length s.args.required.now → HoldsNet s.args.header (s.args.n - 1) xs ys rs
-    net same = let a = s.args in shortened_net a.header a.n a.s a.parents.now a.xs.now a.ys.now a.required.now a.weights.now s.pre.0 s.pre.1.0 s.pre.1.1 s.pre.1.2 ps xs ys rs ws closed same_p same_x same_y same
+    net same = let a = s.args in shortened_net a.header a.n a.s a.parents.now a.xs.now a.ys.now a.required.now a.weights.now s.requires.0 s.requires.1.0 s.requires.1.1 s.requires.1.2 ps xs ys rs ws closed same_p same_x same_y same
 
     tree : HoldsTree (s.args.n - 1) ps xs ys
-    tree = let a = s.args in shortened_tree a.header a.n a.s a.parents.now a.xs.now a.ys.now a.required.now a.weights.now s.pre.0 s.pre.1.0 s.pre.1.1 s.pre.1.2 ps xs ys rs ws closed same_p same_x same_y
+    tree = let a = s.args in shortened_tree a.header a.n a.s a.parents.now a.xs.now a.ys.now a.required.now a.weights.now s.requires.0 s.requires.1.0 s.requires.1.1 s.requires.1.2 ps xs ys rs ws closed same_p same_x same_y
 
 close_up_all-requires : tie.Need-close_up_all-requires
 close_up_all-requires c κs = search rules

@@ -59,10 +59,10 @@ closed S s c m f g a u e c1 once old new l under z zS mz fz = go (min_one (min_�
     wa = omega (arith, whole, min_is (min_ℤ a (u -ℤ pos c)) e, min_is a (u -ℤ pos c))
 
     none_of : (y : ℕ) → m y ≡ 0 → f y -ℤ pos (m y * c) ≡ f y
-    none_of y q = let r : m y * c ≡ 0 = rw q (native.Mathlib.Nat.zero_mul c) in omega (arith, whole, -is (f y) (pos (m y * c)))
+    none_of y q = let r : m y * c ≡ 0 = rw q (native.Mathlib.Nat.zero-mul c) in omega (arith, whole, -is (f y) (pos (m y * c)))
 
     one_of : (y : ℕ) → m y ≢ 0 → f y -ℤ pos (m y * c) ≡ f y -ℤ pos c
-    one_of y q = let o : m y ≡ 1 = omega (arith, once y) in let r : m y * c ≡ c = rw o (native.Mathlib.Nat.one_mul c) in ap (λ i. f y -ℤ pos i) r
+    one_of y q = let o : m y ≡ 1 = omega (arith, once y) in let r : m y * c ≡ c = rw o (native.Mathlib.Nat.one-mul c) in ap (λ i. f y -ℤ pos i) r
 
     low : (y : ℕ) → delta y s + count y S ≢ 0 → (y ≡ s) ⊎ (y ≢ s) → (m y ≡ 0) ⊎ (m y ≢ 0) → w ≤ℤ g y
     low y q (inl h) d = subst (λ i. w ≤ℤ i) (sym (ap g h ∙ new)) we

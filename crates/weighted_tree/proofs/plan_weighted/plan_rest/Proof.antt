@@ -32,7 +32,7 @@ abbrev weights : tie.In_default → List ℕ
 weights c = weights_of c.args.n c.read_rest.new.weights
 
 read : (c : tie.In_default) → read_weighted c.args.net.now ≡ value (record { net = net c; weights = weights c })
-read c = let s = c in s.requires.0.0 ∙ (rw c.enum_told-1.given.1 at (c.read_rest.ensures s.args.header))
+read c = let s = c in s.requires.0.0 ∙ (rw c.in_default.is at (c.read_rest.ensures s.args.header))
 
 holds : (c : tie.In_default) → (let a = c.args in let l = c.read_rest.new.xs in HoldsNet a.header a.n l.0 l.1.0 l.1.1.0)
 holds c =
@@ -79,7 +79,7 @@ shape_of-weights-in-NetRefused c = search rules
 returns-in-NetRefused : tie.Need-returns-in-NetRefused
 returns-in-NetRefused c =
     let s = c in
-    tree_refused_answer weighted_tree s.args.net.now s.args.out.now _ (s.requires.0.0 ∙ (rw c.refusal-1.given.1 at (c.read_rest.ensures s.args.header)))
+    tree_refused_answer weighted_tree s.args.net.now s.args.out.now _ (s.requires.0.0 ∙ (rw c.in-NetRefused.is at (c.read_rest.ensures s.args.header)))
 
 enum_told-1 : tie.Need-enum_told-1
 enum_told-1 c = search rules

@@ -16,20 +16,20 @@ enum_known-header c = search rules
 
 plan_small-requires : tie.Need-plan_small-requires
 plan_small-requires c κs =
-    let w = rw c.header-1.given.1 at c.read_head.ensures in
+    let w = rw c.in-HeadRead.is at c.read_head.ensures in
     (w.0, (c.if-n-le16.true, w.1.1, w.1.2, w.1.3))
 
 plan_medium-requires : tie.Need-plan_medium-requires
 plan_medium-requires c κs =
-    let w = rw c.header-1.given.1 at c.read_head.ensures in
+    let w = rw c.in-HeadRead.is at c.read_head.ensures in
     (w.0, (c.if-n-le64.true, w.1.1, w.1.2, w.1.3))
 
 plan_large-requires : tie.Need-plan_large-requires
 plan_large-requires c κs =
-    rw c.header-1.given.1 at c.read_head.ensures
+    rw c.in-HeadRead.is at c.read_head.ensures
 
 returns-in-HeadRefused : tie.Need-returns-in-HeadRefused
-returns-in-HeadRefused c = tree_refused_answer weighted_tree _ _ _ (rw c.refusal-1.given.1 at c.read_head.ensures)
+returns-in-HeadRefused c = tree_refused_answer weighted_tree _ _ _ (rw c.in-HeadRefused.is at c.read_head.ensures)
 
 shape_of-out-then-n-le16 : tie.Need-shape_of-out-then-n-le16
 shape_of-out-then-n-le16 c = search rules

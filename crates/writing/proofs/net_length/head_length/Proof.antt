@@ -23,11 +23,11 @@ sum_is c =
     let n = st.args.n in
     omega (
       arith,
-      c.line2_length-first.ensures ∙ ap length (root_line_lem h root n st.pre),
-      c.line1_length-second.ensures ∙ ap length (branch_line_lem h root n st.pre _ c.attoseconds.ensures),
-      c.line2_length-third.ensures ∙ ap length (wire_line_lem h root n st.pre _ _ c.attoseconds_per_nanometre-horizontal.ensures c.attoseconds_per_nanometre-vertical.ensures),
-      c.line1_length-fourth.ensures ∙ ap length (need_line_lem h root n st.pre _ c.attoseconds-2.ensures),
-      c.line1_length-fifth.ensures ∙ ap length (count_line_lem h root n st.pre),
+      c.line2_length-first.ensures ∙ ap length (root_line_lem h root n st.requires),
+      c.line1_length-second.ensures ∙ ap length (branch_line_lem h root n st.requires _ c.attoseconds.ensures),
+      c.line2_length-third.ensures ∙ ap length (wire_line_lem h root n st.requires _ _ c.attoseconds_per_nanometre-horizontal.ensures c.attoseconds_per_nanometre-vertical.ensures),
+      c.line1_length-fourth.ensures ∙ ap length (need_line_lem h root n st.requires _ c.attoseconds-2.ensures),
+      c.line1_length-fifth.ensures ∙ ap length (count_line_lem h root n st.requires),
       head_parts h root n,
     )
 

@@ -60,17 +60,17 @@ root_is c = root_line_lem c.args.header c.args.root c.args.n c.requires.0
 branch_is : (c : tie.After-attoseconds) → line_text branch_key (rd c.attoseconds.result ∷ []) ≡ branch_line (start1 c.before.before.before.before.before.before.before).args.header
 branch_is c =
     let st = start1 c.before.before.before.before.before.before.before in
-    branch_line_lem st.args.header st.args.root st.args.n st.pre.0 _ c.attoseconds.ensures
+    branch_line_lem st.args.header st.args.root st.args.n st.requires.0 _ c.attoseconds.ensures
 
 wire_is : (c : tie.After-put_line1-second) → line_text wire_key (to_z w64 c.attoseconds_per_nanometre-horizontal.result ∷ (to_z w64 c.attoseconds_per_nanometre-vertical.result ∷ [])) ≡ wire_line (start2 c).args.header
 wire_is c =
     let st = start2 c in
-    wire_line_lem st.args.header st.args.root st.args.n st.pre.0 _ _ c.attoseconds_per_nanometre-horizontal.ensures c.attoseconds_per_nanometre-vertical.ensures
+    wire_line_lem st.args.header st.args.root st.args.n st.requires.0 _ _ c.attoseconds_per_nanometre-horizontal.ensures c.attoseconds_per_nanometre-vertical.ensures
 
 need-is : (c : tie.After-attoseconds-2) → line_text need_key (rd c.attoseconds-2.result ∷ []) ≡ need_line (start3 c.before.before.before.before.before.before.before).args.header
 need-is c =
     let st = start3 c.before.before.before.before.before.before.before in
-    need_line_lem st.args.header st.args.root st.args.n st.pre.0 _ c.attoseconds-2.ensures
+    need_line_lem st.args.header st.args.root st.args.n st.requires.0 _ c.attoseconds-2.ensures
 
 count_is : (c : tie.Start) → line_text sinks_key (to_z w64 c.args.n ∷ []) ≡ count_line c.args.n
 count_is c = count_line_lem c.args.header c.args.root c.args.n c.requires.0
@@ -126,7 +126,7 @@ attoseconds-requires-2 : tie.Need-attoseconds-requires-2
 attoseconds-requires-2 c κs =
     let st = start1 c.before.before.before.before.before.before.before.before.before.before.before.before.before.before.before.before.before.before.before.before in
     let a = st.args in
-    (branch_writable a.header a.root a.n st.pre.0 _ c.attoseconds.ensures, next_fits _ _ (root_line a.root) (branch_line a.header) (room2 st) _ _ (put1 c.before.before.before.before.before.before.before.before.before.before.before.before.before.before.before.before.before.before.before.before) _ (branch_is c.before.before.before.before.before.before.before.before.before.before.before.before.before))
+    (branch_writable a.header a.root a.n st.requires.0 _ c.attoseconds.ensures, next_fits _ _ (root_line a.root) (branch_line a.header) (room2 st) _ _ (put1 c.before.before.before.before.before.before.before.before.before.before.before.before.before.before.before.before.before.before.before.before) _ (branch_is c.before.before.before.before.before.before.before.before.before.before.before.before.before))
 
 put_line1-fourth-requires : tie.Need-put_line1-fourth-requires
 put_line1-fourth-requires c = search rules
@@ -135,7 +135,7 @@ overflow_cast-n : tie.Need-overflow_cast-n
 overflow_cast-n c κs =
     let st = start2 c.before.before.before.before.before.before.before.before.before.before.before.before.before.before.before.before.before.before.before in
     let a = st.args in
-    let w = wire_writable a.header a.root a.n st.pre.0 _ _ c.attoseconds_per_nanometre-horizontal.ensures c.attoseconds_per_nanometre-vertical.ensures in
+    let w = wire_writable a.header a.root a.n st.requires.0 _ _ c.attoseconds_per_nanometre-horizontal.ensures c.attoseconds_per_nanometre-vertical.ensures in
     (w.0, w.1, next_fits _ _ (two st) (wire_line a.header) (room3 st) _ _ (put2 c.before.before.before.before.before.before.before.before.before.before.before.before.before.before.before.before.before.before.before) _ (wire_is c.before.before.before.before.before.before.before.before.before.before.before.before.before.before.before.before.before.before.before))
 
 put_line1-requires : tie.Need-put_line1-requires
@@ -148,7 +148,7 @@ returns : tie.Need-returns
 returns c κs =
     let st = start3 c.before.before.before.before.before.before.before.before.before.before.before.before.before.before.before.before in
     let a = st.args in
-    (need_writable a.header a.root a.n st.pre.0 _ c.attoseconds-2.ensures, next_fits _ _ (three st) (need_line a.header) (room4 st) _ _ (put3 c.before.before.before.before.before.before.before.before.before.before.before.before.before.before.before.before) _ (need-is c.before.before.before.before.before.before.before.before.before))
+    (need_writable a.header a.root a.n st.requires.0 _ c.attoseconds-2.ensures, next_fits _ _ (three st) (need_line a.header) (room4 st) _ _ (put3 c.before.before.before.before.before.before.before.before.before.before.before.before.before.before.before.before) _ (need-is c.before.before.before.before.before.before.before.before.before))
 
 slice-aggregate-put-line1-3 : tie.Need-slice-aggregate-put-line1-3
 slice-aggregate-put-line1-3 c = search rules
@@ -160,7 +160,7 @@ put-line1-requires-3 : tie.Need-put-line1-requires-3
 put-line1-requires-3 c κs =
     let st = start4 c.before.before.before.before in
     let a = st.args in
-    (count_writable a.header a.root a.n st.pre.0, next_fits _ _ (four st) (count_line a.n) (room5 st) _ _ (put4 c.before.before.before.before) _ (count_is st))
+    (count_writable a.header a.root a.n st.requires.0, next_fits _ _ (four st) (count_line a.n) (room5 st) _ _ (put4 c.before.before.before.before) _ (count_is st))
 
 same_length : tie.Need-same-length
 same_length c = search rules
