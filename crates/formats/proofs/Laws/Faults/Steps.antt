@@ -1,13 +1,14 @@
 -- A step of reading refuses the line that is due for its fault, or gives what its numbers say. Assumes nothing.
 use Prim.Native.Nat.{ℕ, suc, ◌≤◌}
-use mathlib.Core.Path.{◌≡◌, refl, sym, ◌∙◌}
+use mathlib.Core.Path.{◌≡◌, refl, sym, subst, ◌∙◌}
 use mathlib.Core.Bool.{Bool, true, false, ◌&&◌, false≢true}
-use mathlib.Core.List.{List, [], ◌∷◌}
+use mathlib.Core.List.{List, [], ◌∷◌, ◌++◌}
 use lib.ListN.{length, drop}
 use lib.IntN.{ℤ, pos, nat_abs}
 use lib.Signed.{le_z, ◌≤ℤ◌}
 use native.Mathlib.Omega.{arith}
 use Rattle.quantities.specs.Inner.Linear.{whole, le_z_is}
+use Rattle.formats.specs.Line.{line_text}
 use Rattle.formats.specs.Reading.Rows.{Row, row, misspelled, line_in}
 use Rattle.formats.specs.Outcome.{Outcome, value, refused, and_then}
 use Rattle.formats.specs.Ranges.{at}
@@ -103,8 +104,9 @@ module _ (t : Text) (l : ℕ) (key : List ℕ) (k : ℕ) (gs : List Range) (s : 
           first true i =
               let b : (le_z y (pos k) ≡ true) × (le_z (pos k) y ≡ true) = and_true (le_z y (pos k)) (le_z (pos k) y) i in
               let p : y ≡ pos k = omega (arith, whole) in
-              let h = rw p at (line_sound key (suc (length gs)) s (y ∷ zs) j q) in
-              ranged_tried t l key (pos k ∷ []) gs s zs j (record { count = omega (arith, h.0); text = h.2 })
+              let was = line_sound key (suc (length gs)) s (y ∷ zs) j q in
+              let text = subst (λ (z : ℤ). s ≡ line_text key (z ∷ zs) ++ drop j s) p was.2 in
+              ranged_tried t l key (pos k ∷ []) gs s zs j (record { count = omega (arith, was.0); text = text })
 
 -- ---- what is asked of a line besides its ranges
 

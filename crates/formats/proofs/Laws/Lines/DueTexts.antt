@@ -1,7 +1,7 @@
 -- Laws of one line that is due. Soundness: it is refused by 2 or by 3, or the text begins with a line of numbers in range and what comes next gets them.
 -- Completeness: every such line is read as its numbers, whatever follows. Assumes nothing.
 use Prim.Native.Nat.{ℕ, suc, ◌≤◌}
-use mathlib.Core.Path.{◌≡◌, refl, sym, ◌∙◌}
+use mathlib.Core.Path.{◌≡◌, refl, sym, subst, ◌∙◌}
 use mathlib.Core.Logic.{◌⊎◌, inl, inr}
 use mathlib.Core.Bool.{Bool, true, false, ◌&&◌, false≢true}
 use mathlib.Core.List.{List, [], ◌∷◌, ◌++◌}
@@ -100,9 +100,10 @@ module _ {A C : Type 0} (t : Text) (l : ℕ) (key : List ℕ) (gs : List Range) 
           first true i u =
               let b : (le_z y (pos k) ≡ true) × (le_z (pos k) y ≡ true) = and_true (le_z y (pos k)) (le_z (pos k) y) i in
               let p : y ≡ pos k = omega (arith, whole) in
-              let h = rw p at (line_sound key (suc (length gs)) s (y ∷ zs) j q) in
+              let was = line_sound key (suc (length gs)) s (y ∷ zs) j q in
+              let text = subst (λ (z : ℤ). s ≡ line_text key (z ∷ zs) ++ drop j s) p was.2 in
               ranged_cases t l gs s next o bad zs j u λ i u.
-              every_at gs zs (λ zs. (r : List ℕ) → s ≡ line_text key (pos k ∷ zs) ++ r → next (record { got = zs; rest = r }) ≡ o → C) (omega (arith, h.0)) i f (drop j s) h.2 u
+              every_at gs zs (λ zs. (r : List ℕ) → s ≡ line_text key (pos k ∷ zs) ++ r → next (record { got = zs; rest = r }) ≡ o → C) (omega (arith, was.0)) i f (drop j s) text u
 
 -- ---- a line of one number
 

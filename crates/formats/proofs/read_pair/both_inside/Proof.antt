@@ -2,7 +2,6 @@
 use mathlib.Core.Path.{sym, ◌∙◌}
 use mathlib.Core.Logic.{inl, inr}
 use mathlib.Core.Bool.{Bool, true, false}
-use borrow.Author.Tests.{not-true, not-false}
 use Rattle.formats.specs.NetText.{both}
 use Rattle.formats.specs.Inner.Ranging.{listed, Tested, Ranged}
 use Rattle.formats.specs.declared.ranges.Range.{Range}
@@ -20,7 +19,7 @@ is_inside-requires : tie.Need-is_inside-requires
 is_inside-requires c κs = search rules
 
 returns-then-not-is_inside : tie.Need-returns-then-not-is_inside
-returns-then-not-is_inside c = inl (λ z e. sym (not-true _ c.if-not-is_inside.taken) ∙ c.is_inside.ensures z e)
+returns-then-not-is_inside c = inl (λ z e. sym (c.if-not-is_inside.true) ∙ c.is_inside.ensures z e)
 
 is_inside-requires-2 : tie.Need-is_inside-requires-2
 is_inside-requires-2 c κs = search rules
@@ -28,7 +27,7 @@ is_inside-requires-2 c κs = search rules
 returns : tie.Need-returns
 returns c =
     by_last _ _ c.is_inside-2.result
-    (λ z e. sym (not-false _ c.if-not-is_inside.left) ∙ c.is_inside.ensures z e)
+    (λ z e. sym (c.if-not-is_inside.false) ∙ c.is_inside.ensures z e)
     (λ z e. c.is_inside-2.ensures z e)
 
 pub both_inside_spec : {M : Type 1} → statement M

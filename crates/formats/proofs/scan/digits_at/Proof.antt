@@ -4,7 +4,6 @@ use Prim.Native.Nat.{◌-◌}
 use lib.ListN.{length}
 use Rattle.formats.proofs.Laws.Numbers.Digits.{digit_range, lead_end, lead_other}
 use Rattle.formats.proofs.Laws.Numbers.Saturation.{Going, going_start, going_more, going_stop}
-use borrow.Author.Tests.{not-true, not-false}
 use mathlib.Core.Path.{sym, ◌∙◌}
 use Rattle.formats.proofs.scan.digits_at.Statement.{statement}
 use Rattle.formats.proofs.scan.digits_at.Tie as tie
@@ -28,10 +27,10 @@ is_digit-requires : tie.Need-is_digit-requires invariant-loop-i decreases-loop-i
 is_digit-requires c κs = search rules
 
 returns-then-not-is_digit : tie.Need-returns-then-not-is_digit invariant-loop-i decreases-loop-i
-returns-then-not-is_digit c = going_stop _ _ _ _ _ (lead_other _ _ c.loop-i-test.true (sym c.is_digit.ensures ∙ not-true _ c.if-not-is_digit.true)) c.loop-i.invariant
+returns-then-not-is_digit c = going_stop _ _ _ _ _ (lead_other _ _ c.loop-i-test.true (sym c.is_digit.ensures ∙ c.if-not-is_digit.true)) c.loop-i.invariant
 
 digit-number-requires : tie.Need-digit-number-requires invariant-loop-i decreases-loop-i
-digit-number-requires c κs = digit_range _ (sym c.is_digit.ensures ∙ not-false _ c.if-not-is_digit.false)
+digit-number-requires c κs = digit_range _ (sym c.is_digit.ensures ∙ c.if-not-is_digit.false)
 
 overflow_add-i : tie.Need-overflow_add-i invariant-loop-i decreases-loop-i
 overflow_add-i c = search rules
@@ -40,7 +39,7 @@ loop-i-smaller : tie.Need-loop-i-smaller invariant-loop-i decreases-loop-i
 loop-i-smaller c = search rules
 
 loop-i-preserved : tie.Need-loop-i-preserved invariant-loop-i decreases-loop-i
-loop-i-preserved c = rw c.digit-number.ensures (going_more _ _ _ _ _ (search rules) (sym c.is_digit.ensures ∙ not-false _ c.if-not-is_digit.false) c.loop-i.invariant)
+loop-i-preserved c = rw c.digit-number.ensures (going_more _ _ _ _ _ (search rules) (sym c.is_digit.ensures ∙ c.if-not-is_digit.false) c.loop-i.invariant)
 
 returns : tie.Need-returns invariant-loop-i decreases-loop-i
 returns c = going_stop _ _ _ _ _ (lead_end _ _ c.loop-i-test.false) c.loop-i.invariant

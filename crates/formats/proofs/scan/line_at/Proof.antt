@@ -3,7 +3,6 @@ use mathlib.Core.Path.{◌≡◌, sym, ◌∙◌}
 use mathlib.Core.Bool.{true}
 use lib.ListN.{drop}
 use borrow.Author.Rules.{rules}
-use borrow.Author.Tests.{not-true, not-false}
 use Rattle.formats.specs.Reading.Rows.{begins}
 use Rattle.formats.proofs.Laws.Lines.Keys.{begins_within}
 use Rattle.formats.proofs.Laws.Lines.Rows.{line_wrong, line_right}
@@ -16,10 +15,10 @@ starts_with-requires c κs = search rules
 returns-then-not-starts_with : tie.Need-returns-then-not-starts_with
 returns-then-not-starts_with c =
     let a = c.args in
-    line_wrong a.key.now a.text.now a.at a.count (sym c.starts_with.ensures ∙ not-true _ c.if-not-starts_with.true)
+    line_wrong a.key.now a.text.now a.at a.count (sym c.starts_with.ensures ∙ c.if-not-starts_with.true)
 
 there : (c : tie.Else-not-starts_with) → begins c.args.key.now (drop c.args.at c.args.text.now) ≡ true
-there c = sym c.starts_with.ensures ∙ not-false _ c.if-not-starts_with.false
+there c = sym c.starts_with.ensures ∙ c.if-not-starts_with.false
 
 overflow_add-at : tie.Need-overflow_add-at
 overflow_add-at c = search rules

@@ -2,8 +2,8 @@
 use borrow.Author.Rules.{rules}
 use mathlib.Core.Path.{◌∙◌}
 use Rattle.formats.proofs.Laws.Numbers.Spelling.{by_minus, by_digit, past_end}
-use mathlib.Core.Logic.{⊎_elim}
 use Rattle.formats.proofs.scan.number_at.Statement.{statement}
+use Rattle.formats.proofs.scan.number_at.Lts.{then-at-text+else-text-at-eq-MINUS, else-at-text}
 use Rattle.formats.proofs.scan.number_at.Tie as tie
 
 bounds-text-at : tie.Need-bounds-text-at
@@ -26,7 +26,7 @@ natural_at-requires-2 c κs = search rules
 returns : tie.Need-returns
 returns c =
     let a = c.args in
-    c.natural_at-2.ensures ∙ by_digit a.text.now a.at (⊎_elim (λ w. w.2.left) (λ w. past_end a.text.now a.at w.left) c.if-at-text.branch)
+    c.natural_at-2.ensures ∙ by_digit a.text.now a.at (elim c.if-at-text.branch [ then-at-text+else-text-at-eq-MINUS w ↦ w.if-text-at-eq-MINUS.false | else-at-text w ↦ past_end a.text.now a.at w.if-at-text.false ])
 
 pub number_at_spec : {M : Type 1} → statement M
 number_at_spec =

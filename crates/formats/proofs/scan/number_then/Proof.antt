@@ -22,8 +22,8 @@ returns-in_default c =
 returns-then-text-next : tie.Need-returns-then-text-next
 returns-then-text-next c =
     let a = c.args in
-    let g = c.number-1.given in
-    then_short a.text.now a.at a.stop g.0.0 g.0.1.0 (sym g.1 ∙ c.number_at.ensures) c.if-text-next.true c.requires.1
+    let g = c.in-Value in
+    then_short a.text.now a.at a.stop g.number g.next (sym g.is ∙ c.number_at.ensures) c.if-text-next.true c.requires.1
 
 bounds-text-next : tie.Need-bounds-text-next
 bounds-text-next c = search rules
@@ -31,8 +31,8 @@ bounds-text-next c = search rules
 returns-then-text-next-2 : tie.Need-returns-then-text-next-2
 returns-then-text-next-2 c =
     let a = c.args in
-    let g = c.number-1.given in
-    then_unlike a.text.now a.at a.stop g.0.0 g.0.1.0 (sym g.1 ∙ c.number_at.ensures) c.if-text-next-2.true
+    let g = c.in-Value in
+    then_unlike a.text.now a.at a.stop g.number g.next (sym g.is ∙ c.number_at.ensures) c.if-text-next-2.true
 
 overflow_add-result : tie.Need-overflow_add-result
 overflow_add-result c = search rules
@@ -40,8 +40,8 @@ overflow_add-result c = search rules
 returns : tie.Need-returns
 returns c =
     let a = c.args in
-    let g = c.number-1.given in
-    then_like a.text.now a.at a.stop g.0.0 g.0.1.0 (sym g.1 ∙ c.number_at.ensures) c.if-text-next-2.false
+    let g = c.in-Value in
+    then_like a.text.now a.at a.stop g.number g.next (sym g.is ∙ c.number_at.ensures) c.if-text-next-2.false
 
 pub number_then_spec : {M : Type 1} → statement M
 number_then_spec =
