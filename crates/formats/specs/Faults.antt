@@ -2,13 +2,12 @@
 use Rattle.std.specs.Prelude.{ℕ, zero, suc, ◌-◌, ◌≤◌, ◌<◌, ◌≡◌, ◌≢◌, List, [], ◌∷◌, ◌++◌, length, ℤ, pos, nat_abs, ◌≤ℤ◌}
 use Rattle.quantities.specs.declared.point.Point.{Point}
 use Rattle.quantities.specs.Distance.{distance}
-use Rattle.tree.specs.Net.{Net}
 use Rattle.tree.specs.Limits.{branch_limit, need_limit, sink_limit, slack_limit, wire_limit}
 use Rattle.formats.specs.Limits.{net_length_limit, listing_length_limit, pin_limit}
 use Rattle.formats.specs.Line.{line_text}
 use Rattle.formats.specs.Ranges.{around, up_to, from_zero, at}
 use Rattle.formats.specs.NetText.{root_key, branch_key, wire_key, need_key, sinks_key, sink_key, position_ranges, factor_ranges, sink_ranges, point_of}
-use Rattle.formats.specs.ListingText.{Listing, slack_key, leaf_key, node_key, parent_range}
+use Rattle.formats.specs.ListingText.{slack_key, leaf_key, node_key, parent_range}
 use Rattle.formats.specs.declared.ranges.Range.{Range}
 use Rattle.formats.specs.declared.refusal.Text.{Text}
 use Rattle.formats.specs.declared.refusal.Text.TheVariants.{InNet, InListing}

@@ -1,7 +1,7 @@
 -- The text of a net in range, or of a listing in range, is within its length; so it is in the format, that of a net where its pins are near enough, and so are the longest. Assumes nothing.
 use Prim.Native.Nat.{ℕ, zero, suc, ◌+◌, ◌*◌, ◌-◌, ◌^◌, ◌≤◌, ◌<◌}
 use mathlib.Core.Path.{◌≡◌, refl, sym, ap, ◌∙◌, subst}
-use mathlib.Core.List.{List, [], ◌∷◌, map}
+use mathlib.Core.List.{List, [], ◌∷◌}
 use lib.ListN.{length, replicate, length-append, length-replicate, get_or-replicate, get_or-map}
 use lib.IntN.{ℤ, pos, neg_ℤ}
 use mathlib.Core.Bool.{true, false}

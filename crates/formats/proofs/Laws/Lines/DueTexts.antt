@@ -14,7 +14,6 @@ use Rattle.quantities.specs.Inner.Linear.{whole, le_z_is}
 use Rattle.formats.specs.Line.{line_text}
 use Rattle.formats.specs.Reading.Rows.{Row, row, misspelled, line_in}
 use Rattle.formats.specs.Outcome.{Outcome, value, refused, and_then}
-use Rattle.formats.specs.Ranges.{at}
 use Rattle.formats.specs.Reading.Lines.{inside, all_inside, Read, ranged, due, due_number, due_natural, ranged_after, due_for, ended}
 use Rattle.formats.specs.Faults.{InRanges}
 use Rattle.formats.specs.declared.ranges.Range.{Range}

@@ -4,10 +4,10 @@ use mathlib.Core.Path.{◌≡◌, sym, subst, ◌∙◌}
 use mathlib.Core.Bool.{true}
 use mathlib.Core.List.{List, [], ◌∷◌}
 use lib.ListN.{length, drop}
-use lib.IntN.{ℤ, pos}
+use lib.IntN.{ℤ}
 use native.Mathlib.Omega.{arith}
 use Rattle.quantities.specs.declared.point.Point.{Point}
-use Rattle.quantities.specs.Ranges.{Within, PointWithin}
+use Rattle.quantities.specs.Ranges.{PointWithin}
 use Rattle.tree.specs.Limits.{position_limit}
 use Rattle.formats.specs.Reading.Rows.{line_in}
 use Rattle.formats.specs.Outcome.{value, refused}

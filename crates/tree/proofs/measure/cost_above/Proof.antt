@@ -1,6 +1,6 @@
 -- What the edge above v costs: its delay and what v itself costs, whose sum is in range. No loop.
 use native.Mathlib.Omega.{arith}
-use mathlib.Core.Path.{◌≡◌, sym, ap₂, ◌∙◌, subst}
+use mathlib.Core.Path.{sym, ap₂, ◌∙◌, subst}
 use lib.IntN.{pos, ◌+ℤ◌}
 use Rattle.quantities.specs.declared.point.Point.{Point}
 use Rattle.quantities.specs.Delay.{delay}

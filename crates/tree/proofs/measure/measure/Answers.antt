@@ -11,8 +11,7 @@ pub count_vertex-requires : goal.count_vertex-requires
 count_vertex-requires c =
     let a = c.args in
     let held = c.requires.0 in
-    let t = c.loop-v.invariant in
-    (
+    let t = c.loop-v.invariant in (
       held,
       c.requires.1,
       omega (arith, t.begun),
