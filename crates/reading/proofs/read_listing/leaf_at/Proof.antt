@@ -23,7 +23,7 @@ use Rattle.reading.proofs.read_listing.leaf_at.Statement.{statement}
 use Rattle.reading.proofs.read_listing.leaf_at.Tie as tie
 
 abbrev start : tie.In-AsDue → tie.Start
-start t = t.before.before.before.before.before.before.before
+start t = t.before.before.before.before.before
 
 abbrev text : tie.In-AsDue → List ℕ
 text t = (start t).args.text.now

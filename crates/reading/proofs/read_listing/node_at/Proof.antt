@@ -26,7 +26,7 @@ use Rattle.reading.proofs.read_listing.node_at.Statement.{statement}
 use Rattle.reading.proofs.read_listing.node_at.Tie as tie
 
 abbrev start : tie.In-AsDue → tie.Start
-start t = t.before.before.before.before.before.before.before
+start t = t.before.before.before.before.before
 
 abbrev text : tie.In-AsDue → List ℕ
 text t = (start t).args.text.now
@@ -70,11 +70,11 @@ returns-then-not-is_exactly : tie.Need-returns-then-not-is_exactly
 returns-then-not-is_exactly c =
     let t = c in
     vertex_other node_key position_ranges (start t.before.before.before.before).args.n (start t.before.before.before.before).args.k (text t.before.before.before.before) (start t.before.before.before.before).args.here.at (start t.before.before.before.before).args.here.line (start t.before.before.before.before).requires.1
-    (omega arith) (numbers t.before.before.before.before) (end t.before.before.before.before) (took t.before.before.before.before) (λ z h. sym (not-true _ c.if-not-is_exactly.taken) ∙ c.is_exactly.ensures z h)
+    (omega arith) (numbers t.before.before.before.before) (end t.before.before.before.before) (took t.before.before.before.before) (λ z h. sym c.if-not-is_exactly.true ∙ c.is_exactly.ensures z h)
     c.not_due-then-not-is_exactly.result c.not_due-then-not-is_exactly.ensures
 
 same : (c : tie.Else-not-is_exactly) → Compared true (start c.before.before.before).args.k (numbers c.before.before.before).first
-same c z h = sym (not-false _ c.if-not-is_exactly.left) ∙ c.is_exactly.ensures z h
+same c z h = sym c.if-not-is_exactly.false ∙ c.is_exactly.ensures z h
 
 abbrev ranges : ℕ → List Range
 ranges n = parent_range n ∷ position_ranges
@@ -95,14 +95,14 @@ returns-then-not-node_in_range c =
     let t = e in
     vertex_out node_key position_ranges (start t.before.before.before.before.before.before).args.n (start t.before.before.before.before.before.before).args.k (text t.before.before.before.before.before.before) (start t.before.before.before.before.before.before).args.here.at (start t.before.before.before.before.before.before).args.here.line (start t.before.before.before.before.before.before).requires.1
     (omega arith) (numbers t.before.before.before.before.before.before) (end t.before.before.before.before.before.before) (took t.before.before.before.before.before.before) (same e.before.before.before)
-    (failed r.node_in_range.result (ranges (start t.before.before.before.before.before.before).args.n) (others (numbers t.before.before.before.before.before.before)) r.node_in_range.ensures (not-true _ c.if-not-node_in_range.taken))
+    (failed r.node_in_range.result (ranges (start t.before.before.before.before.before.before).args.n) (others (numbers t.before.before.before.before.before.before)) r.node_in_range.ensures c.if-not-node_in_range.true)
     c.out_of_range.result c.out_of_range.ensures
 
 -- every number is in its range
 inside : (c : tie.Else-not-node_in_range) → Passed (ranges (start c.before.before.before.before.before).args.n) (others (numbers c.before.before.before.before.before))
 inside c =
     let t = c in
-    passed c.node_in_range.result (ranges (start t.before.before.before.before.before).args.n) (others (numbers t.before.before.before.before.before)) c.node_in_range.ensures (not-false _ c.if-not-node_in_range.left)
+    passed c.node_in_range.result (ranges (start t.before.before.before.before.before).args.n) (others (numbers t.before.before.before.before.before)) c.node_in_range.ensures c.if-not-node_in_range.false
 
 small : (c : tie.Else-not-node_in_range) → AllSmall (ranges (start c.before.before.before.before.before).args.n) (others (numbers c.before.before.before.before.before))
 small c =

@@ -36,7 +36,7 @@ enum_known-value : tie.Need-enum_known-value
 enum_known-value c = search rules
 
 abbrev start : tie.In-NumberRead → tie.Start
-start t = t.before.before.before.before.before.before.before.before
+start t = t.before.before.before.before.before.before
 
 -- the line has a number in its range
 taken : (t : tie.In-NumberRead) → NumberTaken InListing wire_key (from_zero wire_limit) (start t).args.text.now (start t).args.here t.in-NumberRead.value t.in-NumberRead.next

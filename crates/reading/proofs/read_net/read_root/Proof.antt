@@ -44,7 +44,7 @@ abbrev next : tie.In-PairRead → Place
 next t = t.in-PairRead.next
 
 abbrev start : tie.In-PairRead → tie.Start
-start t = t.before.before.before.before.before.before.before.before
+start t = t.before.before.before.before.before.before
 
 abbrev lineOne : Place
 lineOne = record { at = 0; line = 1 }

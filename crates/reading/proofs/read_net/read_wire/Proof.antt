@@ -47,7 +47,7 @@ abbrev next : tie.In-PairRead → Place
 next t = t.in-PairRead.next
 
 abbrev start : tie.In-PairRead → tie.Start
-start t = t.before.before.before.before.before.before.before.before
+start t = t.before.before.before.before.before.before
 
 taken : (t : tie.In-PairRead) → PairTaken wire_key (up_to wire_factor_limit) (start t).args.text.now (start t).args.here (first t) (second t) (next t)
 taken t =
