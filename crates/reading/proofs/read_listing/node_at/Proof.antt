@@ -131,7 +131,7 @@ returns c =
     (numbers t.before.before.before.before.before.before.before.before.before.before.before).second.mag (rd x.result) (rd y.result)
     (λ j. record {
       parent = value_abs (numbers t.before.before.before.before.before.before.before.before.before.before.before).second j;
-      point = record { x = sym (to_z-of_z (fit x.result x.ok) ∙ x.ensures) j; y = sym (to_z-of_z (fit y.result y.ok) ∙ y.ensures) j };
+      point = record { x = sym (to_z-of_z (fit x.result x.type_inv) ∙ x.ensures) j; y = sym (to_z-of_z (fit y.result y.type_inv) ∙ y.ensures) j };
     })
     c.with_parent.result c.with_parent.ensures
 
