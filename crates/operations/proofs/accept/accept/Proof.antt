@@ -67,8 +67,7 @@ shape_of-parents-in-ListingRefused c = search rules
 returns-in-ListingRefused : tie.Need-returns-in-ListingRefused
 returns-in-ListingRefused c =
     let a = c.args in
-    let r = c.read_listing in
-    (
+    let r = c.read_listing in (
       listing_turned (net_of a.header a.n a.xs.now a.ys.now a.required.now) a.n a.listing.now c.in-ListingRefused.refusal (size_is a.header a.n a.xs.now a.ys.now a.required.now) (rw c.in-ListingRefused.is at r.ensures.0),
       r.ensures.1,
     )

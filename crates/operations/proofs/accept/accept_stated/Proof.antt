@@ -7,7 +7,6 @@ use Rattle.tree.specs.Inner.Arrays.{net_of}
 use Rattle.formats.specs.ListingText.{Listing}
 use Rattle.formats.specs.Inner.ListingReader.{listing_held}
 use Rattle.operations.proofs.Laws.Judging.{slack_other, wire_other, wire_same}
-
 use borrow.Author.Rules.{rules}
 use Rattle.operations.proofs.accept.accept_stated.Statement.{statement}
 use Rattle.operations.proofs.accept.accept_stated.Tie as tie
@@ -59,13 +58,4 @@ returns c =
 pub accept_stated_spec : {M : Type 1} → statement M
 accept_stated_spec =
     tie.close
-    (tie.spec
-    measure_tree-tally-requires
-    is_same-requires
-    shape_of-slacks-then-not-is_same
-    returns-then-not-is_same
-    is_same-requires-2
-    shape_of-slacks-then-not-is_same-2
-    returns-then-not-is_same-2
-    shape_of-slacks
-    returns)
+    (tie.spec measure_tree-tally-requires is_same-requires shape_of-slacks-then-not-is_same returns-then-not-is_same is_same-requires-2 shape_of-slacks-then-not-is_same-2 returns-then-not-is_same-2 shape_of-slacks returns)

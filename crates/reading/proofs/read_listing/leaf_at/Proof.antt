@@ -8,7 +8,6 @@ use native.Mathlib.Omega.{arith}
 use lib.ListN.{drop}
 use lib.IntN.{pos}
 use borrow.Author.Rules.{rules}
-use borrow.Author.Tests.{not-true, not-false}
 use Rattle.formats.specs.Reading.Rows.{line_in}
 use Rattle.formats.specs.ListingText.{leaf_key, parent_range}
 use Rattle.formats.specs.Inner.Scanning.{taken_at}

@@ -7,7 +7,6 @@ use native.Mathlib.Omega.{arith}
 use lib.ListN.{drop}
 use mir.Facts.{to_z-of_z}
 use borrow.Author.Rules.{rules}
-use borrow.Author.Tests.{not-true, not-false}
 use Rattle.quantities.specs.Inner.Linear.{rd, fit}
 use Rattle.tree.specs.Limits.{position_limit, sink_limit}
 use Rattle.formats.specs.declared.ranges.Range.{Range}

@@ -1,12 +1,10 @@
 -- The arrays hold the listing's tree, and its stated slack and wire are returned, or the first refusal: length first, then the lines in order. No loop.
-use mathlib.Core.Path.{◌≡◌, refl, subst}
+use mathlib.Core.Path.{refl, subst}
 use lib.ListN.{drop}
 use borrow.Author.Rules.{rules}
 use Rattle.tree.specs.Inner.Arrays.{tree_of}
 use Rattle.formats.specs.Reading.Listings.{read_stated, read_tree}
 use Rattle.formats.specs.Inner.ListingReader.{StatedFrom}
-use Rattle.formats.specs.declared.read_listing.StatedLines.{StatedLines}
-use Rattle.formats.specs.declared.read_listing.StatedLines.TheVariants.{StatedRead, StatedRefused}
 use Rattle.formats.proofs.Laws.Listings.ListingLines.{told_refused, told_tree, listing_long, listing_no_stated, listing_no_tree, listing_all}
 use Rattle.reading.proofs.read_listing.read_listing.Statement.{statement}
 use Rattle.reading.proofs.read_listing.read_listing.Tie as tie

@@ -7,7 +7,6 @@ use borrow.Author.Tests.{ltb-true, ltb-false}
 use Rattle.formats.specs.Outcome.{value}
 use Rattle.formats.specs.Inner.Readers.{ReadTo}
 use Rattle.formats.specs.Inner.ListingReader.{LinesSay, parents_from, vertices_from, leaves_in, nodes_in}
-use Rattle.formats.specs.declared.reader.Place.{Place}
 use Rattle.formats.specs.declared.read_listing.VertexLines.{VertexLines}
 use Rattle.formats.specs.declared.read_listing.VertexLines.TheVariants.{VerticesRead, VerticesRefused}
 use Rattle.formats.proofs.Laws.Listings.ListingLines.{tree_no_leaves, tree_no_nodes, tree_more, tree_all, tree_held, tell_refused}
@@ -52,7 +51,7 @@ returns-in_default c =
     let e = c.in_default.is in (
       tell_refused a.n _ c.read_leaves-leaves.result _ _ _ r e
           (tree_no_leaves a.n (drop a.from.at a.text.now) r
-              (subst (LinesSay (leaves_in a.n (drop a.from.at a.text.now)) (parents_from c.read_leaves-leaves.new.parents 1 a.n) a.text.now (a.n + 4)) e c.read_leaves-leaves.ensures)),
+          (subst (LinesSay (leaves_in a.n (drop a.from.at a.text.now)) (parents_from c.read_leaves-leaves.new.parents 1 a.n) a.text.now (a.n + 4)) e c.read_leaves-leaves.ensures)),
       λ v h. refl,
     )
 

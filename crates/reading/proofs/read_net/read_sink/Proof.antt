@@ -9,7 +9,6 @@ use mir.Syntax.{w64}
 use mir.Val.{to_z, of_z}
 use mir.Facts.{to_z-of_z}
 use borrow.Author.Rules.{rules}
-use borrow.Author.Tests.{not-true, not-false}
 use Rattle.quantities.specs.Inner.Linear.{fit}
 use Rattle.quantities.specs.declared.point.Point.{Point}
 use Rattle.tree.specs.Limits.{position_limit, required_limit, weight_limit}
