@@ -10,11 +10,9 @@ use lib.Seq.{drop_at}
 use lib.Dec.{ltb}
 use lib.Signed.{◌≤ℤ◌, ◌<ℤ◌, lt_z}
 use Rattle.quantities.specs.Inner.Linear.{whole}
-use Rattle.quantities.specs.declared.length.Length.{Length}
 use Rattle.tree.specs.Net.{Net}
 use Rattle.tree.specs.Measures.{worst_slack, wire_length}
 use Rattle.tree.specs.Settling.{plan}
-use Rattle.formats.specs.Refusals.{told}
 use Rattle.formats.specs.Outcome.{Outcome, value, refused}
 use Rattle.formats.specs.Reading.Nets.{read_net}
 use Rattle.formats.specs.declared.refusal.Refusal.{Refusal}

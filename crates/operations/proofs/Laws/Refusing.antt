@@ -8,7 +8,7 @@ use native.Mathlib.Omega.{arith}
 use lib.Signed.{◌<ℤ◌}
 use Rattle.quantities.specs.Inner.Linear.{whole}
 use Rattle.tree.specs.Net.{Net, size}
-use Rattle.tree.specs.Tree.{Legal, LegalTree}
+use Rattle.tree.specs.Tree.{LegalTree}
 use Rattle.tree.specs.Measures.{worst_slack, wire_length}
 use Rattle.tree.specs.Defects.{wrong_children, RightChildren, WrongChildrenAt, LowestUnreached}
 use Rattle.tree.specs.Settling.{plan}

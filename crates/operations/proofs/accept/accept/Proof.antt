@@ -3,7 +3,6 @@ use Prim.Native.Nat.{◌*◌, ◌≤◌}
 use mathlib.Core.Path.{◌≡◌}
 use native.Mathlib.Omega.{arith}
 use lib.ListN.{length}
-use Rattle.tree.specs.Net.{Net, size}
 use Rattle.tree.specs.Inner.Arrays.{net_of}
 use Rattle.tree.proofs.Laws.Arrays.NetAndTree.{size_is}
 use Rattle.tree.proofs.Laws.Arrays.PlanArrays.{some_few}
@@ -17,20 +16,11 @@ use borrow.Author.Rules.{rules}
 use Rattle.operations.proofs.accept.accept.Statement.{statement}
 use Rattle.operations.proofs.accept.accept.Tie as tie
 
--- the net before the listing is read
-abbrev net : tie.Start → Net
-net s = let a = s.args in net_of a.header a.n a.xs.now a.ys.now a.required.now
-
-sized : (s : tie.Start) → size (net s) ≡ s.args.n
-sized s = let a = s.args in size_is a.header a.n a.xs.now a.ys.now a.required.now
-
 -- the listing that was read
-abbrev listing : tie.In-ListingHeld-2 → Listing
-listing c =
-    let l = c.read_listing.new in
-    listing_held c.in-ListingHeld.slack c.in-ListingHeld.wire c.args.n l.1.1.0 l.1.1.1.0 l.1.1.1.1.0
+abbrev listing : tie.In-ListingHeld → Listing
+listing c = let l = c.read_listing.new in listing_held c.in-ListingHeld.slack c.in-ListingHeld.wire c.args.n l.parents l.xs l.ys
 
-read : (c : tie.In-ListingHeld-2) → read_listing c.args.n c.args.listing.now ≡ value (listing c)
+read : (c : tie.In-ListingHeld) → read_listing c.args.n c.args.listing.now ≡ value (listing c)
 read c = rw c.in-ListingHeld.is at c.read_listing.ensures.0
 
 read_listing-requires : tie.Need-read_listing-requires
@@ -48,22 +38,21 @@ enum_known-slack c = search rules
 
 accept_tree-requires : tie.Need-accept_tree-requires
 accept_tree-requires c κs =
-    let s = c in
-    let a = s.args in
-    let d = c in
+    let a = c.args in
+    let d = c.before.before.before.before in
     let r = c.read_listing in
     let ps = r.new.parents in
     let xs = r.new.xs in
     let ys = r.new.ys in
-    let ps-long : 2 * a.n ≤ length ps = omega (arith, r.auto, s.requires.0.1) in
-    let xs_long : 2 * a.n ≤ length xs = omega (arith, r.auto, s.requires.0.1) in
-    let ys_long : 2 * a.n ≤ length ys = omega (arith, r.auto, s.requires.0.1) in
-    let held = s.requires.0.0 in (
+    let ps-long : 2 * a.n ≤ length ps = omega (arith, r.auto, c.requires.0.1) in
+    let xs_long : 2 * a.n ≤ length xs = omega (arith, r.auto, c.requires.0.1) in
+    let ys_long : 2 * a.n ≤ length ys = omega (arith, r.auto, c.requires.0.1) in
+    let held = c.requires.0.0 in (
       (
         kept_holds a.header a.n a.xs.now a.ys.now a.required.now xs ys r.ensures.1 held xs_long ys_long,
-        read_listing_holds a.header a.n a.xs.now a.ys.now a.required.now xs ys r.ensures.1 held xs_long ys_long ps ps-long (listing d.before.before.before.before.before).slack (listing d.before.before.before.before.before).wire a.listing.now (read d.before.before.before.before.before),
+        read_listing_holds a.header a.n a.xs.now a.ys.now a.required.now xs ys r.ensures.1 held xs_long ys_long ps ps-long (listing d).slack (listing d).wire a.listing.now (read d),
       ),
-      s.requires.1,
+      c.requires.1,
     )
 
 shape_of-xs-in-ListingRefused : tie.Need-shape_of-xs-in-ListingRefused
@@ -77,9 +66,11 @@ shape_of-parents-in-ListingRefused c = search rules
 
 returns-in-ListingRefused : tie.Need-returns-in-ListingRefused
 returns-in-ListingRefused c =
-    let s = c in
-    let r = c.read_listing in
-    (listing_turned (net s.before.before.before.before.before.before.before.before.before.before.before.before.before.before.before.before) s.args.n s.args.listing.now c.in-ListingRefused.refusal (sized s) (rw c.in-ListingRefused.is at r.ensures.0), r.ensures.1)
+    let a = c.args in
+    let r = c.read_listing in (
+      listing_turned (net_of a.header a.n a.xs.now a.ys.now a.required.now) a.n a.listing.now c.in-ListingRefused.refusal (size_is a.header a.n a.xs.now a.ys.now a.required.now) (rw c.in-ListingRefused.is at r.ensures.0),
+      r.ensures.1,
+    )
 
 shape_of-xs-in-ListingHeld : tie.Need-shape_of-xs-in-ListingHeld
 shape_of-xs-in-ListingHeld c = search rules
@@ -104,13 +95,12 @@ shape_of-slacks c = search rules
 
 returns-in-ListingHeld : tie.Need-returns-in-ListingHeld
 returns-in-ListingHeld c =
-    let s = c in
-    let a = s.args in
-    let d = c in
+    let a = c.args in
+    let d = c.before.before.before.before.before.before.before.before.before.before.before.before in
     let r = c.read_listing in
     let xs = r.new.xs in
     let ys = r.new.ys in (
-      tree_accepted (net s.before.before.before.before.before.before.before.before.before.before.before.before.before.before.before.before.before.before.before.before.before.before.before.before.before.before.before.before) (net_of a.header a.n xs ys a.required.now) a.n a.listing.now (listing d.before.before.before.before.before.before.before.before.before.before.before.before.before) (sized s) (read d.before.before.before.before.before.before.before.before.before.before.before.before.before)
+      tree_accepted (net_of a.header a.n a.xs.now a.ys.now a.required.now) (net_of a.header a.n xs ys a.required.now) a.n a.listing.now (listing d) (size_is a.header a.n a.xs.now a.ys.now a.required.now) (read d)
           (kept_net a.header a.n a.xs.now a.ys.now a.required.now xs ys r.ensures.1) _ c.accept_tree.ensures,
       r.ensures.1,
     )

@@ -7,7 +7,6 @@ use Rattle.tree.specs.Inner.Arrays.{net_of}
 use Rattle.formats.specs.ListingText.{Listing}
 use Rattle.formats.specs.Inner.ListingReader.{listing_held}
 use Rattle.operations.proofs.Laws.Judging.{slack_other, wire_other, wire_same}
-use borrow.Author.Tests.{not-true, not-false}
 use borrow.Author.Rules.{rules}
 use Rattle.operations.proofs.accept.accept_stated.Statement.{statement}
 use Rattle.operations.proofs.accept.accept_stated.Tie as tie
@@ -21,7 +20,7 @@ listing c = let a = c.args in listing_held a.slack a.wire a.n a.parents.now a.xs
 
 -- the stated slack is the measured one
 same_slack : (c : tie.Else-not-is_same) → (le_z (listing c.before.before.before.before.before).slack c.measure_tree-tally.result.worst.0 && le_z c.measure_tree-tally.result.worst.0 (listing c.before.before.before.before.before).slack) ≡ true
-same_slack c = sym c.is_same.ensures ∙ not-false _ c.if-not-is_same.false
+same_slack c = sym c.is_same.ensures ∙ c.if-not-is_same.false
 
 measure_tree-tally-requires : tie.Need-measure_tree-tally-requires
 measure_tree-tally-requires c κs = search rules
@@ -35,7 +34,7 @@ shape_of-slacks-then-not-is_same c = search rules
 returns-then-not-is_same : tie.Need-returns-then-not-is_same
 returns-then-not-is_same c =
     let m = c in
-    slack_other (net m.before.before.before.before.before) (listing m.before.before.before.before.before) m.measure_tree-tally.result.worst.0 m.measure_tree-tally.result.wire.0 m.measure_tree-tally.ensures.0 m.measure_tree-tally.ensures.1 (sym c.is_same.ensures ∙ not-true _ c.if-not-is_same.true)
+    slack_other (net m.before.before.before.before.before) (listing m.before.before.before.before.before) m.measure_tree-tally.result.worst.0 m.measure_tree-tally.result.wire.0 m.measure_tree-tally.ensures.0 m.measure_tree-tally.ensures.1 (sym c.is_same.ensures ∙ c.if-not-is_same.true)
 
 is_same-requires-2 : tie.Need-is_same-requires-2
 is_same-requires-2 c κs = search rules
@@ -46,7 +45,7 @@ shape_of-slacks-then-not-is_same-2 c = search rules
 returns-then-not-is_same-2 : tie.Need-returns-then-not-is_same-2
 returns-then-not-is_same-2 c =
     let m = c in
-    wire_other (net m.before.before.before.before.before.before.before) (listing m.before.before.before.before.before.before.before) m.measure_tree-tally.result.worst.0 m.measure_tree-tally.result.wire.0 m.measure_tree-tally.ensures.0 m.measure_tree-tally.ensures.1 (same_slack c.before.before) (sym c.is_same-2.ensures ∙ not-true _ c.if-not-is_same-2.true)
+    wire_other (net m.before.before.before.before.before.before.before) (listing m.before.before.before.before.before.before.before) m.measure_tree-tally.result.worst.0 m.measure_tree-tally.result.wire.0 m.measure_tree-tally.ensures.0 m.measure_tree-tally.ensures.1 (same_slack c.before.before) (sym c.is_same-2.ensures ∙ c.if-not-is_same-2.true)
 
 shape_of-slacks : tie.Need-shape_of-slacks
 shape_of-slacks c = search rules
@@ -54,7 +53,7 @@ shape_of-slacks c = search rules
 returns : tie.Need-returns
 returns c =
     let m = c in
-    wire_same (net m.before.before.before.before.before.before.before) (listing m.before.before.before.before.before.before.before) m.measure_tree-tally.result.worst.0 m.measure_tree-tally.result.wire.0 m.measure_tree-tally.ensures.0 m.measure_tree-tally.ensures.1 (same_slack c.before.before) (sym c.is_same-2.ensures ∙ not-false _ c.if-not-is_same-2.false)
+    wire_same (net m.before.before.before.before.before.before.before) (listing m.before.before.before.before.before.before.before) m.measure_tree-tally.result.worst.0 m.measure_tree-tally.result.wire.0 m.measure_tree-tally.ensures.0 m.measure_tree-tally.ensures.1 (same_slack c.before.before) (sym c.is_same-2.ensures ∙ c.if-not-is_same-2.false)
 
 pub accept_stated_spec : {M : Type 1} → statement M
 accept_stated_spec =

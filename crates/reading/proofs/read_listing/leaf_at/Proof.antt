@@ -8,7 +8,6 @@ use native.Mathlib.Omega.{arith}
 use lib.ListN.{drop}
 use lib.IntN.{pos}
 use borrow.Author.Rules.{rules}
-use borrow.Author.Tests.{not-true, not-false}
 use Rattle.formats.specs.Reading.Rows.{line_in}
 use Rattle.formats.specs.ListingText.{leaf_key, parent_range}
 use Rattle.formats.specs.Inner.Scanning.{taken_at}
@@ -23,34 +22,31 @@ use Rattle.reading.proofs.read_listing.leaf_at.Statement.{statement}
 use Rattle.reading.proofs.read_listing.leaf_at.Tie as tie
 
 abbrev start : tie.In-AsDue → tie.Start
-start t = t.before.before.before.before.before.before
+start t = t.before.before.before.before.before
 
 abbrev text : tie.In-AsDue → List ℕ
 text t = (start t).args.text.now
 
 abbrev numbers : tie.In-AsDue → Numbers
-numbers t = t.before.numbers.given.0.0
+numbers t = t.in-AsDue.numbers
 
 abbrev end : tie.In-AsDue → Place
-end t = t.before.numbers.given.0.1.0
+end t = t.in-AsDue.next
 
 read_line-requires : tie.Need-read_line-requires
-read_line-requires c = search rules
+read_line-requires c κs = search rules
 
 enum_known-numbers : tie.Need-enum_known-numbers
-enum_known-numbers c κs = search rules
+enum_known-numbers c = search rules
 
 enum_told-1 : tie.Need-enum_told-1
 enum_told-1 c = search rules
 
 not_due-requires : tie.Need-not_due-requires
-not_due-requires c = search rules
+not_due-requires c κs = search rules
 
 returns-in_default : tie.Need-returns-in_default
-returns-in_default c κs = search rules
-
-is_exactly-requires : tie.Need-is_exactly-requires
-is_exactly-requires c =
+returns-in_default c =
     let b = c in
     vertex_wrong leaf_key [] b.args.n b.args.k b.args.text.now b.args.here.at b.args.here.line b.requires.1
     (sym c.in_default.is ∙ c.read_line.ensures)
@@ -58,38 +54,38 @@ is_exactly-requires c =
 
 -- what the reader took
 took : (t : tie.In-AsDue) → AsDue (numbers t) (end t) ≡ taken_at (start t).args.here.at (start t).args.here.line (line_in leaf_key 2 (drop (start t).args.here.at (text t)))
-took t = sym t.before.numbers.given.1 ∙ t.before.before.before.read_line.ensures
+took t = sym t.in-AsDue.is ∙ t.read_line.ensures
+
+is_exactly-requires : tie.Need-is_exactly-requires
+is_exactly-requires c κs = search rules
 
 not_due-requires-then-not-is_exactly : tie.Need-not_due-requires-then-not-is_exactly
 not_due-requires-then-not-is_exactly c κs = search rules
 
 returns-then-not-is_exactly : tie.Need-returns-then-not-is_exactly
-returns-then-not-is_exactly c κs = search rules
-
-overflow_mul-n : tie.Need-overflow_mul-n
-overflow_mul-n c =
+returns-then-not-is_exactly c =
     let t = c in
     vertex_other leaf_key [] (start t.before.before.before.before).args.n (start t.before.before.before.before).args.k (text t.before.before.before.before) (start t.before.before.before.before).args.here.at (start t.before.before.before.before).args.here.line (start t.before.before.before.before).requires.1
-    (omega arith) (numbers t.before.before.before.before) (end t.before.before.before.before) (took t) (λ z h. sym (not-true _ c.if-not-is_exactly.true) ∙ c.is_exactly.ensures z h)
+    (omega arith) (numbers t.before.before.before.before) (end t.before.before.before.before) (took t.before.before.before.before) (λ z h. sym c.if-not-is_exactly.true ∙ c.is_exactly.ensures z h)
     c.not_due-then-not-is_exactly.result c.not_due-then-not-is_exactly.ensures
 
 same : (c : tie.Else-not-is_exactly) → Compared true (start c.before.before.before).args.k (numbers c.before.before.before).first
-same c z h = sym (not-false _ c.if-not-is_exactly.false) ∙ c.is_exactly.ensures z h
+same c z h = sym c.if-not-is_exactly.false ∙ c.is_exactly.ensures z h
+
+overflow_mul-n : tie.Need-overflow_mul-n
+overflow_mul-n c = search rules
 
 overflow_sub-n : tie.Need-overflow_sub-n
 overflow_sub-n c = search rules
 
 from_zero-requires : tie.Need-from_zero-requires
-from_zero-requires c = search rules
-
-is_inside-requires : tie.Need-is_inside-requires
-is_inside-requires c κs = search rules
+from_zero-requires c κs = search rules
 
 narrow : (c : tie.In-AsDue) → Narrow (parent_range (start c).args.n)
 narrow t = from_narrow (2 * (start t).args.n - 1) (omega arith) 0
 
-out_of_range-requires : tie.Need-out_of_range-requires
-out_of_range-requires c κs = subst Narrow (sym c.from_zero.ensures) (narrow c.before.before.before.before.before.before.before)
+is_inside-requires : tie.Need-is_inside-requires
+is_inside-requires c κs = subst Narrow (sym c.from_zero.ensures) (narrow c.before.before.before.before.before)
 
 -- how the parent was tested
 tested : (c : tie.After-is_inside) (u : Bool) → c.is_inside.result ≡ u
@@ -98,29 +94,29 @@ tested c u e =
     let t = c in
     tested_as c.is_inside.result u c.from_zero.result (parent_range (start t.before.before.before.before.before.before).args.n) (numbers t.before.before.before.before.before.before).second c.is_inside.ensures e c.from_zero.ensures
 
-returns-then-not-is_inside : tie.Need-returns-then-not-is_inside
-returns-then-not-is_inside c κs = search rules
+out_of_range-requires : tie.Need-out_of_range-requires
+out_of_range-requires c κs = search rules
 
-with_parent-requires : tie.Need-with_parent-requires
-with_parent-requires c =
+returns-then-not-is_inside : tie.Need-returns-then-not-is_inside
+returns-then-not-is_inside c =
     let i = c in
     let e = i in
     let t = e in
-    vertex_out leaf_key [] (start t.before.before.before.before.before.before.before).args.n (start t.before.before.before.before.before.before.before).args.k (text t.before.before.before.before.before.before.before) (start t.before.before.before.before.before.before.before).args.here.at (start t.before.before.before.before.before.before.before).args.here.line (start t.before.before.before.before.before.before.before).requires.1
-    (omega arith) (numbers t.before.before.before.before.before.before.before) (end t.before.before.before.before.before.before.before) (took t) (same e.before.before.before.before) (inl (tested i.before false (not-true _ c.if-not-is_inside.true)))
+    vertex_out leaf_key [] (start t.before.before.before.before.before.before.before.before).args.n (start t.before.before.before.before.before.before.before.before).args.k (text t.before.before.before.before.before.before.before.before) (start t.before.before.before.before.before.before.before.before).args.here.at (start t.before.before.before.before.before.before.before.before).args.here.line (start t.before.before.before.before.before.before.before.before).requires.1
+    (omega arith) (numbers t.before.before.before.before.before.before.before.before) (end t.before.before.before.before.before.before.before.before) (took t.before.before.before.before.before.before.before.before) (same e.before.before.before.before.before) (inl (tested i.before.before false c.if-not-is_inside.true))
     c.out_of_range.result c.out_of_range.ensures
 
-returns : tie.Need-returns
-returns c κs = search rules
+with_parent-requires : tie.Need-with_parent-requires
+with_parent-requires c κs = search rules
 
-returns-4 : tie.Need-returns-4
-returns-4 c =
+returns : tie.Need-returns
+returns c =
     let i = c in
     let e = i in
     let t = e in
-    vertex_in leaf_key [] (start t).args.n (start t).args.k (text t) (start t).args.here.at (start t).args.here.line (start t).requires.1
-    (omega arith) (numbers t) (end t) (took t) (same e) (start t).requires.0 (narrow t, tt) (tested i true (not-false _ c.if-not-is_inside.false), tt)
-    (numbers t).second.mag (pos 0) (pos 0) (ap (λ (p : ℕ). record { parent = p; point = record { x = pos 0; y = pos 0 } }) (value_abs (numbers t).second))
+    vertex_in leaf_key [] (start t.before.before.before.before.before.before.before.before).args.n (start t.before.before.before.before.before.before.before.before).args.k (text t.before.before.before.before.before.before.before.before) (start t.before.before.before.before.before.before.before.before).args.here.at (start t.before.before.before.before.before.before.before.before).args.here.line (start t.before.before.before.before.before.before.before.before).requires.1
+    (omega arith) (numbers t.before.before.before.before.before.before.before.before) (end t.before.before.before.before.before.before.before.before) (took t.before.before.before.before.before.before.before.before) (same e.before.before.before.before.before) (start t.before.before.before.before.before.before.before.before).requires.0 (narrow t.before.before.before.before.before.before.before.before, tt) (tested i.before.before true c.if-not-is_inside.false, tt)
+    (numbers t.before.before.before.before.before.before.before.before).second.mag (pos 0) (pos 0) (ap (λ (p : ℕ). record { parent = p; point = record { x = pos 0; y = pos 0 } }) (value_abs (numbers t.before.before.before.before.before.before.before.before).second))
     c.with_parent.result c.with_parent.ensures
 
 pub leaf_at_spec : {M : Type 1} → statement M
@@ -142,5 +138,4 @@ leaf_at_spec =
     out_of_range-requires
     returns-then-not-is_inside
     with_parent-requires
-    returns
-    returns-4)
+    returns)

@@ -7,7 +7,6 @@ use native.Mathlib.Omega.{arith}
 use lib.ListN.{drop}
 use mir.Facts.{to_z-of_z}
 use borrow.Author.Rules.{rules}
-use borrow.Author.Tests.{not-true, not-false}
 use Rattle.quantities.specs.Inner.Linear.{rd, fit}
 use Rattle.tree.specs.Limits.{position_limit, sink_limit}
 use Rattle.formats.specs.declared.ranges.Range.{Range}
@@ -26,34 +25,31 @@ use Rattle.reading.proofs.read_listing.node_at.Statement.{statement}
 use Rattle.reading.proofs.read_listing.node_at.Tie as tie
 
 abbrev start : tie.In-AsDue → tie.Start
-start t = t.before.before.before.before.before.before
+start t = t.before.before.before.before.before
 
 abbrev text : tie.In-AsDue → List ℕ
 text t = (start t).args.text.now
 
 abbrev numbers : tie.In-AsDue → Numbers
-numbers t = t.before.numbers.given.0.0
+numbers t = t.in-AsDue.numbers
 
 abbrev end : tie.In-AsDue → Place
-end t = t.before.numbers.given.0.1.0
+end t = t.in-AsDue.next
 
 read_line-requires : tie.Need-read_line-requires
-read_line-requires c = search rules
+read_line-requires c κs = search rules
 
 enum_known-numbers : tie.Need-enum_known-numbers
-enum_known-numbers c κs = search rules
+enum_known-numbers c = search rules
 
 enum_told-1 : tie.Need-enum_told-1
 enum_told-1 c = search rules
 
 not_due-requires : tie.Need-not_due-requires
-not_due-requires c = search rules
+not_due-requires c κs = search rules
 
 returns-in_default : tie.Need-returns-in_default
-returns-in_default c κs = search rules
-
-is_exactly-requires : tie.Need-is_exactly-requires
-is_exactly-requires c =
+returns-in_default c =
     let b = c in
     vertex_wrong node_key position_ranges b.args.n b.args.k b.args.text.now b.args.here.at b.args.here.line b.requires.1
     (sym c.in_default.is ∙ c.read_line.ensures)
@@ -61,23 +57,23 @@ is_exactly-requires c =
 
 -- what the reader took
 took : (t : tie.In-AsDue) → AsDue (numbers t) (end t) ≡ taken_at (start t).args.here.at (start t).args.here.line (line_in node_key 4 (drop (start t).args.here.at (text t)))
-took t = sym t.before.numbers.given.1 ∙ t.before.before.before.read_line.ensures
+took t = sym t.in-AsDue.is ∙ t.read_line.ensures
+
+is_exactly-requires : tie.Need-is_exactly-requires
+is_exactly-requires c κs = search rules
 
 not_due-requires-then-not-is_exactly : tie.Need-not_due-requires-then-not-is_exactly
 not_due-requires-then-not-is_exactly c κs = search rules
 
 returns-then-not-is_exactly : tie.Need-returns-then-not-is_exactly
-returns-then-not-is_exactly c κs = search rules
-
-node_in_range-requires : tie.Need-node_in_range-requires
-node_in_range-requires c =
+returns-then-not-is_exactly c =
     let t = c in
-    vertex_other node_key position_ranges (start t.before.before.before).args.n (start t.before.before.before).args.k (text t.before.before.before) (start t.before.before.before).args.here.at (start t.before.before.before).args.here.line (start t.before.before.before).requires.1
-    (omega arith) (numbers t.before.before.before) (end t.before.before.before) (took t) (λ z h. sym (not-true _ c.if-not-is_exactly.taken) ∙ c.is_exactly.ensures z h)
+    vertex_other node_key position_ranges (start t.before.before.before.before).args.n (start t.before.before.before.before).args.k (text t.before.before.before.before) (start t.before.before.before.before).args.here.at (start t.before.before.before.before).args.here.line (start t.before.before.before.before).requires.1
+    (omega arith) (numbers t.before.before.before.before) (end t.before.before.before.before) (took t.before.before.before.before) (λ z h. sym c.if-not-is_exactly.true ∙ c.is_exactly.ensures z h)
     c.not_due-then-not-is_exactly.result c.not_due-then-not-is_exactly.ensures
 
 same : (c : tie.Else-not-is_exactly) → Compared true (start c.before.before.before).args.k (numbers c.before.before.before).first
-same c z h = sym (not-false _ c.if-not-is_exactly.left) ∙ c.is_exactly.ensures z h
+same c z h = sym c.if-not-is_exactly.false ∙ c.is_exactly.ensures z h
 
 abbrev ranges : ℕ → List Range
 ranges n = parent_range n ∷ position_ranges
@@ -85,56 +81,56 @@ ranges n = parent_range n ∷ position_ranges
 narrow : (n : ℕ) → n ≤ sink_limit → AllNarrow (ranges n)
 narrow n h = (from_narrow (2 * n - 1) (omega arith) 0, (around_narrow position_limit (omega arith), (around_narrow position_limit (omega arith), tt)))
 
+node_in_range-requires : tie.Need-node_in_range-requires
+node_in_range-requires c κs = search rules
+
 out_of_range-requires : tie.Need-out_of_range-requires
 out_of_range-requires c κs = search rules
 
 returns-then-not-node_in_range : tie.Need-returns-then-not-node_in_range
-returns-then-not-node_in_range c κs = search rules
-
-value-requires : tie.Need-value-requires
-value-requires c =
+returns-then-not-node_in_range c =
     let r = c in
     let e = r in
     let t = e in
-    vertex_out node_key position_ranges (start t.before.before.before.before.before.before.before.before).args.n (start t.before.before.before.before.before.before.before.before).args.k (text t.before.before.before.before.before.before.before.before) (start t.before.before.before.before.before.before.before.before).args.here.at (start t.before.before.before.before.before.before.before.before).args.here.line (start t.before.before.before.before.before.before.before.before).requires.1
-    (omega arith) (numbers t.before.before.before.before.before.before.before.before) (end t.before.before.before.before.before.before.before.before) (took t) (same e.before.before.before.before.before)
-    (failed r.node_in_range.result (ranges (start t.before.before.before.before.before.before.before.before).args.n) (others (numbers t.before.before.before.before.before.before.before.before)) r.node_in_range.ensures (not-true _ c.if-not-node_in_range.taken))
+    vertex_out node_key position_ranges (start t.before.before.before.before.before.before).args.n (start t.before.before.before.before.before.before).args.k (text t.before.before.before.before.before.before) (start t.before.before.before.before.before.before).args.here.at (start t.before.before.before.before.before.before).args.here.line (start t.before.before.before.before.before.before).requires.1
+    (omega arith) (numbers t.before.before.before.before.before.before) (end t.before.before.before.before.before.before) (took t.before.before.before.before.before.before) (same e.before.before.before)
+    (failed r.node_in_range.result (ranges (start t.before.before.before.before.before.before).args.n) (others (numbers t.before.before.before.before.before.before)) r.node_in_range.ensures c.if-not-node_in_range.true)
     c.out_of_range.result c.out_of_range.ensures
 
 -- every number is in its range
 inside : (c : tie.Else-not-node_in_range) → Passed (ranges (start c.before.before.before.before.before).args.n) (others (numbers c.before.before.before.before.before))
 inside c =
     let t = c in
-    passed c.node_in_range.result (ranges (start t.before.before.before.before.before).args.n) (others (numbers t.before.before.before.before.before)) c.node_in_range.ensures (not-false _ c.if-not-node_in_range.left)
+    passed c.node_in_range.result (ranges (start t.before.before.before.before.before).args.n) (others (numbers t.before.before.before.before.before)) c.node_in_range.ensures c.if-not-node_in_range.false
 
 small : (c : tie.Else-not-node_in_range) → AllSmall (ranges (start c.before.before.before.before.before).args.n) (others (numbers c.before.before.before.before.before))
 small c =
     let t = c in
     vertex_small node_key position_ranges (start t.before.before.before.before.before).args.n (start t.before.before.before.before.before).args.k (text t.before.before.before.before.before) (start t.before.before.before.before.before).args.here.at (start t.before.before.before.before.before).args.here.line (start t.before.before.before.before.before).requires.1
-    (omega arith) (numbers t.before.before.before.before.before) (end t.before.before.before.before.before) (took t) (narrow (start t.before.before.before.before.before).args.n (start t.before.before.before.before.before).requires.3) (inside c)
+    (omega arith) (numbers t.before.before.before.before.before) (end t.before.before.before.before.before) (took t.before.before.before.before.before) (narrow (start t.before.before.before.before.before).args.n (start t.before.before.before.before.before).requires.3) (inside c)
+
+value-requires : tie.Need-value-requires
+value-requires c κs = (small c.before.before.before).1.0
 
 value-requires-2 : tie.Need-value-requires-2
-value-requires-2 c κs = (small c.before.before.before.before).1.0
+value-requires-2 c κs = (small c.before.before.before.before).1.1.0
 
 with_parent-requires : tie.Need-with_parent-requires
-with_parent-requires c κs = (small c.before.before.before.before.before).1.1.0
+with_parent-requires c κs = search rules
 
 returns : tie.Need-returns
-returns c κs = search rules
-
-returns-4 : tie.Need-returns-4
-returns-4 c =
+returns c =
     let i = c in
     let e = i in
     let t = e in
     let x = c.value in
     let y = c.value-2 in
-    vertex_in node_key position_ranges (start t).args.n (start t).args.k (text t) (start t).args.here.at (start t).args.here.line (start t).requires.1
-    (omega arith) (numbers t) (end t) (took t) (same e) (start t).requires.0 (narrow (start t).args.n (start t).requires.3) (inside i)
-    (numbers t).second.mag (rd x.result) (rd y.result)
+    vertex_in node_key position_ranges (start t.before.before.before.before.before.before.before.before.before.before.before).args.n (start t.before.before.before.before.before.before.before.before.before.before.before).args.k (text t.before.before.before.before.before.before.before.before.before.before.before) (start t.before.before.before.before.before.before.before.before.before.before.before).args.here.at (start t.before.before.before.before.before.before.before.before.before.before.before).args.here.line (start t.before.before.before.before.before.before.before.before.before.before.before).requires.1
+    (omega arith) (numbers t.before.before.before.before.before.before.before.before.before.before.before) (end t.before.before.before.before.before.before.before.before.before.before.before) (took t.before.before.before.before.before.before.before.before.before.before.before) (same e.before.before.before.before.before.before.before.before) (start t.before.before.before.before.before.before.before.before.before.before.before).requires.0 (narrow (start t.before.before.before.before.before.before.before.before.before.before.before).args.n (start t.before.before.before.before.before.before.before.before.before.before.before).requires.3) (inside i.before.before.before.before.before.before)
+    (numbers t.before.before.before.before.before.before.before.before.before.before.before).second.mag (rd x.result) (rd y.result)
     (λ j. record {
-      parent = value_abs (numbers t).second j;
-      point = record { x = sym (to_z-of_z (fit x.result x.ok) ∙ x.ensures) j; y = sym (to_z-of_z (fit y.result y.ok) ∙ y.ensures) j };
+      parent = value_abs (numbers t.before.before.before.before.before.before.before.before.before.before.before).second j;
+      point = record { x = sym (to_z-of_z (fit x.result x.type_inv) ∙ x.ensures) j; y = sym (to_z-of_z (fit y.result y.type_inv) ∙ y.ensures) j };
     })
     c.with_parent.result c.with_parent.ensures
 
@@ -156,5 +152,4 @@ node_at_spec =
     value-requires
     value-requires-2
     with_parent-requires
-    returns
-    returns-4)
+    returns)

@@ -6,7 +6,6 @@ use mathlib.Core.Logic.{inl, inr}
 use mathlib.Core.List.{◌∷◌}
 use native.Mathlib.Omega.{arith}
 use borrow.Author.Rules.{rules}
-use borrow.Author.Tests.{not-true, not-false}
 use Rattle.tree.specs.Limits.{position_limit}
 use Rattle.formats.specs.Ranges.{around}
 use Rattle.formats.specs.NetText.{position_ranges}
@@ -48,7 +47,7 @@ by_last n ns true p x y = (p, (x, (y, tt)))
 by_last n ns false p x y = inr (inr (inl y))
 
 returns-then-not-is_inside : tie.Need-returns-then-not-is_inside
-returns-then-not-is_inside c = inl (parent c.before false (not-true _ c.if-not-is_inside.true))
+returns-then-not-is_inside c = inl (parent c.before false c.if-not-is_inside.true)
 
 around-requires : tie.Need-around-requires
 around-requires c κs = search rules
@@ -57,7 +56,7 @@ is_inside-requires-2 : tie.Need-is_inside-requires-2
 is_inside-requires-2 c κs = subst Narrow (sym c.around.ensures) (around_narrow position_limit (omega arith))
 
 returns-then-not-is_inside-2 : tie.Need-returns-then-not-is_inside-2
-returns-then-not-is_inside-2 c = inr (inl (x c.before false (not-true _ c.if-not-is_inside-2.true)))
+returns-then-not-is_inside-2 c = inr (inl (x c.before false c.if-not-is_inside-2.true))
 
 around-requires-2 : tie.Need-around-requires-2
 around-requires-2 c κs = search rules
@@ -71,8 +70,8 @@ returns c =
     let second = c in
     let first = second in
     by_last a.n a.numbers c.is_inside-3.result
-    (parent first.before.before.before.before.before.before.before.before true (not-false _ first.if-not-is_inside.false))
-    (x second.before.before.before.before true (not-false _ second.if-not-is_inside-2.false))
+    (parent first.before.before.before.before.before.before.before.before true first.if-not-is_inside.false)
+    (x second.before.before.before.before true second.if-not-is_inside-2.false)
     (tested_as c.is_inside-3.result c.is_inside-3.result c.around-2.result (around position_limit) a.numbers.fourth c.is_inside-3.ensures refl c.around-2.ensures)
 
 pub node_in_range_spec : {M : Type 1} → statement M

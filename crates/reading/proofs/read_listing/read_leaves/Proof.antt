@@ -47,16 +47,15 @@ loop-k-preserved c =
     let r = c.leaf_at in
     let w = c.loop-k in
     let a = c.args in
-    let g = c.parent-1.given in
-    let m = subst (VertexSays (due_leaf a.n w.k (drop w.here.at a.text.now)) a.text.now w.here.line) g.1 r.ensures in (
+    let m = subst (VertexSays (due_leaf a.n w.k (drop w.here.at a.text.now)) a.text.now w.here.line) c.in-VertexRead.is r.ensures in (
       omega arith,
       omega arith,
       m.within,
       omega (arith, m.line_is, w.invariant.3),
       simp length-set w.invariant.4,
       lines_more (λ v. v.parent) (due_leaf a.n) 1 a.n a.text.now (leaves_in a.n (drop a.from.at a.text.now)) (λ v. get_or w.parents v 0) w.here.at w.k w.invariant.5
-          (record { parent = g.0.0; point = record { x = g.0.1.0; y = g.0.1.1.0 } }) g.0.1.1.1.0.at (omega arith) (omega arith) m.reads
-          (λ v. get_or (set w.parents w.k g.0.0) v 0) (parent_below w.parents w.k g.0.0) (parent_here w.parents w.k g.0.0 (omega arith)),
+          (record { parent = c.in-VertexRead.parent; point = record { x = c.in-VertexRead.x; y = c.in-VertexRead.y } }) c.in-VertexRead.next.at (omega arith) (omega arith) m.reads
+          (λ v. get_or (set w.parents w.k c.in-VertexRead.parent) v 0) (parent_below w.parents w.k c.in-VertexRead.parent) (parent_here w.parents w.k c.in-VertexRead.parent (omega arith)),
     )
 
 enum_known-refusal : tie.Need-enum_known-refusal invariant-loop-k decreases-loop-k
@@ -70,9 +69,8 @@ returns-in-VertexRefused c =
     let r = c.leaf_at in
     let w = c.loop-k in
     let a = c.args in
-    let g = c.refusal-1.given in
     lines_refused (λ v. v.parent) (due_leaf a.n) 1 a.n a.text.now (leaves_in a.n (drop a.from.at a.text.now)) (λ v. get_or w.parents v 0) w.here.at w.k w.invariant.5
-    g.0.0 (omega arith) (subst (VertexSays (due_leaf a.n w.k (drop w.here.at a.text.now)) a.text.now w.here.line) g.1 r.ensures)
+    c.in-VertexRefused.refusal (omega arith) (subst (VertexSays (due_leaf a.n w.k (drop w.here.at a.text.now)) a.text.now w.here.line) c.in-VertexRefused.is r.ensures)
 
 shape_of-parents : tie.Need-shape_of-parents invariant-loop-k decreases-loop-k
 shape_of-parents c = search rules

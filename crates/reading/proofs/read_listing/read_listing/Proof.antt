@@ -1,22 +1,13 @@
 -- The arrays hold the listing's tree, and its stated slack and wire are returned, or the first refusal: length first, then the lines in order. No loop.
-use mathlib.Core.Path.{◌≡◌, refl, subst}
+use mathlib.Core.Path.{refl, subst}
 use lib.ListN.{drop}
 use borrow.Author.Rules.{rules}
 use Rattle.tree.specs.Inner.Arrays.{tree_of}
 use Rattle.formats.specs.Reading.Listings.{read_stated, read_tree}
 use Rattle.formats.specs.Inner.ListingReader.{StatedFrom}
-use Rattle.formats.specs.declared.read_listing.StatedLines.{StatedLines}
-use Rattle.formats.specs.declared.read_listing.StatedLines.TheVariants.{StatedRead, StatedRefused}
 use Rattle.formats.proofs.Laws.Listings.ListingLines.{told_refused, told_tree, listing_long, listing_no_stated, listing_no_tree, listing_all}
 use Rattle.reading.proofs.read_listing.read_listing.Statement.{statement}
 use Rattle.reading.proofs.read_listing.read_listing.Tie as tie
-
-abbrev start : tie.After-read_stated → tie.Start
-start t = t.before.before.before.before
-
--- what the reader of the first three lines answered
-stated-say : (t : tie.After-read_stated) (r : StatedLines) → t.read_stated.result ≡ r → StatedFrom (read_stated (start t).args.n (start t).args.text.now) (start t).args.text.now r
-stated-say t r e = subst (StatedFrom (read_stated (start t).args.n (start t).args.text.now) (start t).args.text.now) e t.read_stated.ensures
 
 returns-then-text-gt-LISTING_LENGTH_LIMIT : tie.Need-returns-then-text-gt-LISTING_LENGTH_LIMIT
 returns-then-text-gt-LISTING_LENGTH_LIMIT c =
@@ -34,10 +25,9 @@ enum_known-slack c = search rules
 
 read_tree-requires : tie.Need-read_tree-requires
 read_tree-requires c κs =
-    let t = c in
-    let g = c.slack-1.given in
-    let m = stated-say t (StatedRead g.0.0 g.0.1.0 g.0.1.1.0) g.1 in
-    (m.within, m.line_is, (start t.before.before.before.before.before.before).requires.0, (start t.before.before.before.before.before.before).requires.1, (search rules, search rules, search rules))
+    let a = c.args in
+    let m = subst (StatedFrom (read_stated a.n a.text.now) a.text.now) c.in-StatedRead.is c.read_stated.ensures in
+    (m.within, m.line_is, c.requires.0, c.requires.1, (search rules, search rules, search rules))
 
 enum_known-refusal-in-VerticesRefused-1 : tie.Need-enum_known-refusal-in-VerticesRefused-1
 enum_known-refusal-in-VerticesRefused-1 c = search rules
@@ -47,10 +37,8 @@ enum_told-1 c = search rules
 
 returns-in-StatedRefused : tie.Need-returns-in-StatedRefused
 returns-in-StatedRefused c =
-    let t = c in
-    let a = (start t.before.before.before).args in
-    let g = c.refusal-1.given in
-    (listing_no_stated a.n a.text.now t.if-text-gt-LISTING_LENGTH_LIMIT.false g.0.0 (stated-say t (StatedRefused g.0.0) g.1), λ v h. refl)
+    let a = c.args in
+    (listing_no_stated a.n a.text.now c.if-text-gt-LISTING_LENGTH_LIMIT.false c.in-StatedRefused.refusal (subst (StatedFrom (read_stated a.n a.text.now) a.text.now) c.in-StatedRefused.is c.read_stated.ensures), λ v h. refl)
 
 shape_of-parents-in-VerticesRefused : tie.Need-shape_of-parents-in-VerticesRefused
 shape_of-parents-in-VerticesRefused c = search rules
@@ -64,13 +52,12 @@ shape_of-ys-in-VerticesRefused c = search rules
 returns-in-VerticesRefused : tie.Need-returns-in-VerticesRefused
 returns-in-VerticesRefused c =
     let r = c.read_tree in
-    let t = c in
-    let a = (start t.before.before.before.before.before.before.before.before.before.before.before.before.before.before).args in
-    let g = c.slack-1.given in
-    let o = c.refusal-in-VerticesRefused-1.given in
-    let s = stated-say t (StatedRead g.0.0 g.0.1.0 g.0.1.1.0) g.1 in (
-      listing_no_tree a.n a.text.now t.if-text-gt-LISTING_LENGTH_LIMIT.false (record { slack = g.0.0.0; wire = g.0.1.0.0 }) (drop g.0.1.1.0.at a.text.now) s.reads o.0.0
-          (told_refused a.n (read_tree a.n (drop g.0.1.1.0.at a.text.now)) r.result r.new.parents r.new.xs r.new.ys r.ensures.0 o.0.0 o.1),
+    let a = c.args in
+    let g = c.in-StatedRead in
+    let o = c.in-VerticesRefused in
+    let s = subst (StatedFrom (read_stated a.n a.text.now) a.text.now) c.in-StatedRead.is c.read_stated.ensures in (
+      listing_no_tree a.n a.text.now c.if-text-gt-LISTING_LENGTH_LIMIT.false (record { slack = g.slack.0; wire = g.wire.0 }) (drop g.next.at a.text.now) s.reads o.refusal
+          (told_refused a.n (read_tree a.n (drop g.next.at a.text.now)) r.result r.new.parents r.new.xs r.new.ys r.ensures.0 o.refusal o.is),
       r.ensures.1,
     )
 
@@ -86,14 +73,13 @@ shape_of-ys-in-VerticesRead c = search rules
 returns-in-VerticesRead : tie.Need-returns-in-VerticesRead
 returns-in-VerticesRead c =
     let r = c.read_tree in
-    let t = c in
-    let a = (start t.before.before.before.before.before.before.before.before.before.before.before.before.before).args in
-    let g = c.slack-1.given in
-    let o = c.enum_told-1.given in
-    let s = stated-say t (StatedRead g.0.0 g.0.1.0 g.0.1.1.0) g.1 in (
-      listing_all a.n a.text.now t.if-text-gt-LISTING_LENGTH_LIMIT.false (record { slack = g.0.0.0; wire = g.0.1.0.0 }) (drop g.0.1.1.0.at a.text.now) s.reads
+    let a = c.args in
+    let g = c.in-StatedRead in
+    let o = c.in-VerticesRead in
+    let s = subst (StatedFrom (read_stated a.n a.text.now) a.text.now) c.in-StatedRead.is c.read_stated.ensures in (
+      listing_all a.n a.text.now c.if-text-gt-LISTING_LENGTH_LIMIT.false (record { slack = g.slack.0; wire = g.wire.0 }) (drop g.next.at a.text.now) s.reads
           (tree_of a.n r.new.parents r.new.xs r.new.ys)
-          (told_tree a.n (read_tree a.n (drop g.0.1.1.0.at a.text.now)) r.result r.new.parents r.new.xs r.new.ys r.ensures.0 o.0.0 o.1),
+          (told_tree a.n (read_tree a.n (drop g.next.at a.text.now)) r.result r.new.parents r.new.xs r.new.ys r.ensures.0 o.next o.is),
       r.ensures.1,
     )
 

@@ -76,29 +76,28 @@ loop-k-smaller c = omega arith
 
 loop-k-preserved : tie.Need-loop-k-preserved invariant-loop-k decreases-loop-k
 loop-k-preserved c =
-    let r = c.Node-at in
+    let r = c.node_at in
     let w = c.loop-k in
     let a = c.args in
-    let g = c.parent-1.given in
-    let x = to_z-of_z (fit g.0.1.0 c.known_told-1.given.1.0.1) in
-    let y = to_z-of_z (fit g.0.1.1.0 c.known_told-1.given.1.1.0.1) in
-    let m = subst (VertexSays (due_node a.n w.k (drop w.here.at a.text.now)) a.text.now w.here.line) g.1 r.ensures in (
+    let x = to_z-of_z (fit c.in-VertexRead.x c.in-VertexRead.known_told-1-own.given.1.0.1) in
+    let y = to_z-of_z (fit c.in-VertexRead.y c.in-VertexRead.known_told-1-own.given.1.1.0.1) in
+    let m = subst (VertexSays (due_node a.n w.k (drop w.here.at a.text.now)) a.text.now w.here.line) c.in-VertexRead.is r.ensures in (
       omega arith,
       omega arith,
       m.within,
       omega (arith, m.line_is, w.invariant.3),
       (simp length-set w.invariant.4.0, simp length-set w.invariant.4.1, simp length-set w.invariant.4.2),
       (
-        kept_more 0 a.n w.k a.parents.now w.parents g.0.0 w.invariant.0 w.invariant.5.0,
-        kept_more (pos 0) a.n w.k a.xs.now w.xs (rd g.0.1.0) w.invariant.0 w.invariant.5.1,
-        kept_more (pos 0) a.n w.k a.ys.now w.ys (rd g.0.1.1.0) w.invariant.0 w.invariant.5.2,
+        kept_more 0 a.n w.k a.parents.now w.parents c.in-VertexRead.parent w.invariant.0 w.invariant.5.0,
+        kept_more (pos 0) a.n w.k a.xs.now w.xs (rd c.in-VertexRead.x) w.invariant.0 w.invariant.5.1,
+        kept_more (pos 0) a.n w.k a.ys.now w.ys (rd c.in-VertexRead.y) w.invariant.0 w.invariant.5.2,
       ),
       lines_more (λ v. v) (due_node a.n) (suc a.n) (a.n - 1) a.text.now (nodes_in a.n (drop a.from.at a.text.now)) (vertex_held w.parents w.xs w.ys) w.here.at w.k w.invariant.6
-          (record { parent = g.0.0; point = record { x = rd g.0.1.0; y = rd g.0.1.1.0 } }) g.0.1.1.1.0.at (omega arith) (omega arith)
-          (m.reads ∙ (λ i. value (record { got = record { parent = g.0.0; point = record { x = sym x i; y = sym y i } }; rest = drop g.0.1.1.1.0.at a.text.now })))
-          (vertex_held (set w.parents w.k g.0.0) (set w.xs w.k (rd g.0.1.0)) (set w.ys w.k (rd g.0.1.1.0)))
-          (vertex_below w.parents w.xs w.ys w.k g.0.0 (rd g.0.1.0) (rd g.0.1.1.0))
-          (vertex_here w.parents w.xs w.ys w.k g.0.0 (rd g.0.1.0) (rd g.0.1.1.0) (omega arith) (omega arith) (omega arith)),
+          (record { parent = c.in-VertexRead.parent; point = record { x = rd c.in-VertexRead.x; y = rd c.in-VertexRead.y } }) c.in-VertexRead.next.at (omega arith) (omega arith)
+          (m.reads ∙ (λ i. value (record { got = record { parent = c.in-VertexRead.parent; point = record { x = sym x i; y = sym y i } }; rest = drop c.in-VertexRead.next.at a.text.now })))
+          (vertex_held (set w.parents w.k c.in-VertexRead.parent) (set w.xs w.k (rd c.in-VertexRead.x)) (set w.ys w.k (rd c.in-VertexRead.y)))
+          (vertex_below w.parents w.xs w.ys w.k c.in-VertexRead.parent (rd c.in-VertexRead.x) (rd c.in-VertexRead.y))
+          (vertex_here w.parents w.xs w.ys w.k c.in-VertexRead.parent (rd c.in-VertexRead.x) (rd c.in-VertexRead.y) (omega arith) (omega arith) (omega arith)),
     )
 
 enum_known-refusal : tie.Need-enum_known-refusal invariant-loop-k decreases-loop-k
@@ -115,12 +114,11 @@ shape_of-ys-in-VertexRefused c = omega arith
 
 returns-in-VertexRefused : tie.Need-returns-in-VertexRefused invariant-loop-k decreases-loop-k
 returns-in-VertexRefused c =
-    let r = c.Node-at in
+    let r = c.node_at in
     let w = c.loop-k in
-    let a = c.args in
-    let g = c.refusal-1.given in (
+    let a = c.args in (
       lines_refused (λ v. v) (due_node a.n) (suc a.n) (a.n - 1) a.text.now (nodes_in a.n (drop a.from.at a.text.now)) (vertex_held w.parents w.xs w.ys) w.here.at w.k w.invariant.6
-          g.0.0 (omega arith) (subst (VertexSays (due_node a.n w.k (drop w.here.at a.text.now)) a.text.now w.here.line) g.1 r.ensures),
+          c.in-VertexRefused.refusal (omega arith) (subst (VertexSays (due_node a.n w.k (drop w.here.at a.text.now)) a.text.now w.here.line) c.in-VertexRefused.is r.ensures),
       (w.invariant.5.0, λ v h i. record { x = w.invariant.5.1 v h i; y = w.invariant.5.2 v h i }),
     )
 

@@ -22,65 +22,60 @@ use Rattle.reading.proofs.read_listing.read_total.Statement.{statement}
 use Rattle.reading.proofs.read_listing.read_total.Tie as tie
 
 from_zero-requires : tie.Need-from_zero-requires
-from_zero-requires c = search rules
+from_zero-requires c κs = search rules
 
 read_number-requires : tie.Need-read_number-requires
-read_number-requires c κs = search rules
-
-enum_known-refusal : tie.Need-enum_known-refusal
-enum_known-refusal c κs =
+read_number-requires c κs =
     let p = c.requires in
     (p.0, omega (arith, p.1), subst Narrow (sym c.from_zero.ensures) (from_narrow wire_limit (omega arith) 0))
+
+enum_known-refusal : tie.Need-enum_known-refusal
+enum_known-refusal c = search rules
 
 enum_known-value : tie.Need-enum_known-value
 enum_known-value c = search rules
 
-overflow_cast-value : tie.Need-overflow_cast-value
-overflow_cast-value c = search rules
-
 abbrev start : tie.In-NumberRead → tie.Start
-start t = t.before.before.before.before.before.before.before
+start t = t.before.before.before.before.before.before
 
 -- the line has a number in its range
 taken : (t : tie.In-NumberRead) → NumberTaken InListing wire_key (from_zero wire_limit) (start t).args.text.now (start t).args.here t.in-NumberRead.value t.in-NumberRead.next
 taken t =
     let a = (start t).args in
-    let g = t.before.value.given in
-    said_taken InListing wire_key _ (from_zero wire_limit) t.before.before.before.before.from_zero.ensures a.text.now a.here _ t.before.before.before.read_number.ensures g.0.0 g.0.1.0 g.1
+    said_taken InListing wire_key _ (from_zero wire_limit) t.from_zero.ensures a.text.now a.here _ t.read_number.ensures t.in-NumberRead.value t.in-NumberRead.next t.in-NumberRead.is
 
 -- so that it is read back as it is
 small : (t : tie.In-NumberRead) → SFits w64 t.in-NumberRead.value
-small t = let b = inside_bounds (from_zero wire_limit) t.before.value.given.0.0 (taken t).in_range in omega (arith, whole, b.0, b.1)
+small t = let b = inside_bounds (from_zero wire_limit) t.in-NumberRead.value (taken t).in_range in omega (arith, whole, b.0, b.1)
 
-of-requires : tie.Need-of-requires
-of-requires c =
+overflow_cast-value : tie.Need-overflow_cast-value
+overflow_cast-value c =
     let z = c.in-NumberRead.value in
     let b = inside_bounds (from_zero wire_limit) z (taken c).in_range in
     rw (to_z-of_z (small c)) (omega (arith, whole, b.0, b.1), omega (arith, whole, nat_abs_is z, b.0, b.1))
 
-read_same-requires : tie.Need-read_same-requires
-read_same-requires c κs = search rules
+of-requires : tie.Need-of-requires
+of-requires c κs = search rules
 
-returns-in-NumberRefused : tie.Need-returns-in-NumberRefused
-returns-in-NumberRefused c κs =
+read_same-requires : tie.Need-read_same-requires
+read_same-requires c κs =
     let t = (taken c.before).read_to in
     (t.within, omega (arith, t.line_is, (start c.before).requires.1))
 
-returns-in-NumberRead : tie.Need-returns-in-NumberRead
-returns-in-NumberRead c =
+returns-in-NumberRefused : tie.Need-returns-in-NumberRefused
+returns-in-NumberRefused c =
     let b = c in
     let a = b.args in
-    let g = c.refusal-1.given in
-    total_refused a.n a.slack.0 (drop a.here.at a.text.now) a.here.line b.requires.1 g.0.0
-    (said_refused InListing wire_key _ (from_zero wire_limit) c.from_zero.ensures a.text.now a.here _ c.read_number.ensures g.0.0 g.1)
+    total_refused a.n a.slack.0 (drop a.here.at a.text.now) a.here.line b.requires.1 c.in-NumberRefused.refusal
+    (said_refused InListing wire_key _ (from_zero wire_limit) c.from_zero.ensures a.text.now a.here _ c.read_number.ensures c.in-NumberRefused.refusal c.in-NumberRefused.is)
 
-returns-2 : tie.Need-returns-2
-returns-2 c =
+returns-in-NumberRead : tie.Need-returns-in-NumberRead
+returns-in-NumberRead c =
     let t = c in
-    let a = (start t).args in
+    let a = (start t.before.before).args in
     stated_by _ _ a.text.now c.read_same.result
-    (total_read a.n a.slack.0 (drop a.here.at a.text.now) a.here.line (start t).requires.1 t.in-NumberRead.value _ _ (taken t).read_to.reads
-    (c.of.ensures ∙ ap nat_abs (to_z-of_z (small t))))
+    (total_read a.n a.slack.0 (drop a.here.at a.text.now) a.here.line (start t.before.before).requires.1 t.in-NumberRead.value _ _ (taken t.before.before).read_to.reads
+    (c.of.ensures ∙ ap nat_abs (to_z-of_z (small t.before.before))))
     c.read_same.ensures
 
 pub read_total_spec : {M : Type 1} → statement M
@@ -95,5 +90,4 @@ read_total_spec =
     of-requires
     read_same-requires
     returns-in-NumberRefused
-    returns-in-NumberRead
-    returns-2)
+    returns-in-NumberRead)

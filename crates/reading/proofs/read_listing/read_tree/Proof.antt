@@ -7,45 +7,30 @@ use borrow.Author.Tests.{ltb-true, ltb-false}
 use Rattle.formats.specs.Outcome.{value}
 use Rattle.formats.specs.Inner.Readers.{ReadTo}
 use Rattle.formats.specs.Inner.ListingReader.{LinesSay, parents_from, vertices_from, leaves_in, nodes_in}
-use Rattle.formats.specs.declared.reader.Place.{Place}
 use Rattle.formats.specs.declared.read_listing.VertexLines.{VertexLines}
 use Rattle.formats.specs.declared.read_listing.VertexLines.TheVariants.{VerticesRead, VerticesRefused}
 use Rattle.formats.proofs.Laws.Listings.ListingLines.{tree_no_leaves, tree_no_nodes, tree_more, tree_all, tree_held, tell_refused}
 use Rattle.reading.proofs.read_listing.read_tree.Statement.{statement}
 use Rattle.reading.proofs.read_listing.read_tree.Tie as tie
 
-abbrev start : tie.After-read_leaves-leaves → tie.Start
-start l = l.before.before.before.before
-
 -- what the reader of the leaves answered
-leaves-say : (l : tie.After-read_leaves-leaves) (r : VertexLines) → l.read_leaves-leaves.result ≡ r
-    → LinesSay (leaves_in (start l).args.n (drop (start l).args.from.at (start l).args.text.now)) (parents_from l.read_leaves-leaves.new.parents 1 (start l).args.n) (start l).args.text.now ((start l).args.n + 4) r
-leaves-say l r e =
-    let a = (start l).args in
-    subst (LinesSay (leaves_in a.n (drop a.from.at a.text.now)) (parents_from l.read_leaves.new.1.1.1.0 1 a.n) a.text.now (a.n + 4)) e l.read_leaves.ensures
-
-abbrev leaves : tie.After-read_nodes-nodes → tie.After-read_leaves-leaves
-leaves m = m.before.before.before.before.before.before.before.before.before
-
--- where the nodes start
-abbrev nodes-at : tie.After-read_nodes-nodes → Place
-nodes-at m = m.before.before.before.before.before.leaves.given.0.0
-
-leaves-read : (m : tie.After-read_nodes-nodes) → ReadTo (leaves_in (start (leaves m)).args.n (drop (start (leaves m)).args.from.at (start (leaves m)).args.text.now)) (parents_from (leaves m).read_leaves.new.1.1.1.0 1 (start (leaves m)).args.n) (start (leaves m)).args.text.now ((start (leaves m)).args.n + 4) (nodes-at m)
-leaves-read m = leaves-say (leaves m) (VerticesRead (nodes-at m)) m.before.before.before.before.before.leaves.given.1
+leaves-read : (m : tie.After-read_nodes-nodes) → ReadTo (leaves_in m.args.n (drop m.args.from.at m.args.text.now)) (parents_from m.read_leaves-leaves.new.parents 1 m.args.n) m.args.text.now (m.args.n + 4) m.in-VerticesRead.next
+leaves-read m =
+    let a = m.args in
+    subst (LinesSay (leaves_in a.n (drop a.from.at a.text.now)) (parents_from m.read_leaves-leaves.new.parents 1 a.n) a.text.now (a.n + 4)) m.in-VerticesRead.is m.read_leaves-leaves.ensures
 
 -- what the reader of the nodes answered
 nodes-say : (m : tie.After-read_nodes-nodes) (r : VertexLines) → m.read_nodes-nodes.result ≡ r
-    → LinesSay (nodes_in (start (leaves m)).args.n (drop (nodes-at m).at (start (leaves m)).args.text.now))
-    (vertices_from m.read_nodes-nodes.new.parents m.read_nodes-nodes.new.xs m.read_nodes-nodes.new.ys (suc (start (leaves m)).args.n) ((start (leaves m)).args.n - 1))
-    (start (leaves m)).args.text.now (2 * (start (leaves m)).args.n + 3) r
+    → LinesSay (nodes_in m.args.n (drop m.in-VerticesRead.next.at m.args.text.now))
+    (vertices_from m.read_nodes-nodes.new.parents m.read_nodes-nodes.new.xs m.read_nodes-nodes.new.ys (suc m.args.n) (m.args.n - 1))
+    m.args.text.now (2 * m.args.n + 3) r
 nodes-say m r e =
-    let a = (start (leaves m)).args in
+    let a = m.args in
     subst
-    (LinesSay (nodes_in a.n (drop (nodes-at m).at a.text.now))
-    (vertices_from m.read_nodes.new.1.1.1.0 m.read_nodes.new.1.1.1.1.0 m.read_nodes.new.1.1.1.1.1.0 (suc a.n) (a.n - 1))
+    (LinesSay (nodes_in a.n (drop m.in-VerticesRead.next.at a.text.now))
+    (vertices_from m.read_nodes-nodes.new.parents m.read_nodes-nodes.new.xs m.read_nodes-nodes.new.ys (suc a.n) (a.n - 1))
     a.text.now (2 * a.n + 3))
-    e m.read_nodes.ensures.0
+    e m.read_nodes-nodes.ensures.0
 
 read_leaves-leaves-requires : tie.Need-read_leaves-leaves-requires
 read_leaves-leaves-requires c κs = search rules
@@ -61,20 +46,20 @@ shape_of-parents-in_default c = search rules
 
 returns-in_default : tie.Need-returns-in_default
 returns-in_default c =
-    let l = c in
-    let a = (start l.before.before.before.before).args in
-    let g = c.enum_told-1.given in (
-      tell_refused a.n _ l.read_leaves-leaves.result _ _ _ g.0.0 g.1
-          (tree_no_leaves a.n (drop a.from.at a.text.now) g.0.0 (leaves-say l (VerticesRefused g.0.0) g.1)),
+    let a = c.args in
+    let r = c.in_default.field-0 in
+    let e = c.in_default.is in (
+      tell_refused a.n _ c.read_leaves-leaves.result _ _ _ r e
+          (tree_no_leaves a.n (drop a.from.at a.text.now) r
+          (subst (LinesSay (leaves_in a.n (drop a.from.at a.text.now)) (parents_from c.read_leaves-leaves.new.parents 1 a.n) a.text.now (a.n + 4)) e c.read_leaves-leaves.ensures)),
       λ v h. refl,
     )
 
 read_nodes-nodes-requires : tie.Need-read_nodes-nodes-requires
 read_nodes-nodes-requires c κs =
-    let l = c in
-    let g = c.leaves-1.given in
-    let m = leaves-say l (VerticesRead g.0.0) g.1 in
-    (m.within, m.line_is, (start l.before.before.before.before.before.before.before.before).requires.2, (start l.before.before.before.before.before.before.before.before).requires.3, (search rules, search rules, search rules))
+    let a = c.args in
+    let m = subst (LinesSay (leaves_in a.n (drop a.from.at a.text.now)) (parents_from c.read_leaves-leaves.new.parents 1 a.n) a.text.now (a.n + 4)) c.in-VerticesRead.is c.read_leaves-leaves.ensures in
+    (m.within, m.line_is, c.requires.2, c.requires.3, (search rules, search rules, search rules))
 
 enum_known-nodes : tie.Need-enum_known-nodes
 enum_known-nodes c = search rules
@@ -93,12 +78,13 @@ shape_of-ys-in_default-nodes c = search rules
 
 returns-in_default-nodes : tie.Need-returns-in_default-nodes
 returns-in_default-nodes c =
-    let m = c in
-    let a = (start (leaves m.before.before.before.before.before.before)).args in
-    let g = c.enum_told-in_default-nodes-1.given in (
-      tell_refused a.n _ m.read_nodes-nodes.result _ _ _ g.0.0 g.1
-          (tree_no_nodes a.n a.text.now a.from.at (parents_from (leaves m.before.before.before.before.before.before).read_leaves.new.1.1.1.0 1 a.n) (nodes-at m.before.before.before.before.before.before).at (leaves-read m).reads g.0.0 (nodes-say m (VerticesRefused g.0.0) g.1)),
-      m.read_nodes-nodes.ensures.1.1,
+    let a = c.args in
+    let m = c.before.before.before.before.before in
+    let r = c.in_default-nodes.field-0 in
+    let e = c.in_default-nodes.is in (
+      tell_refused a.n _ c.read_nodes-nodes.result _ _ _ r e
+          (tree_no_nodes a.n a.text.now a.from.at (parents_from c.read_leaves-leaves.new.parents 1 a.n) c.in-VerticesRead.next.at (leaves-read m).reads r (nodes-say m (VerticesRefused r) e)),
+      c.read_nodes-nodes.ensures.1.1,
     )
 
 bytes_follow-requires : tie.Need-bytes_follow-requires
@@ -115,15 +101,15 @@ shape_of-ys-then-bytes_follow c = search rules
 
 returns-then-bytes_follow : tie.Need-returns-then-bytes_follow
 returns-then-bytes_follow c =
-    let m = c in
-    let a = (start (leaves m.before.before.before.before.before.before.before.before.before)).args in
-    let r = m.read_nodes-nodes.new.parents in
-    let g = c.nodes-1.given in
-    let e = nodes-say m (VerticesRead g.0.0) g.1 in (
-      tree_more a.n a.text.now a.from.at (parents_from (leaves m.before.before.before.before.before.before.before.before.before).read_leaves.new.1.1.1.0 1 a.n) (nodes-at m.before.before.before.before.before.before.before.before.before).at (leaves-read m).reads
-          (vertices_from r.0 r.1.0 r.1.1.0 (suc a.n) (a.n - 1)) g.0.0.at e.reads g.0.0.line e.line_is
+    let a = c.args in
+    let m = c.before.before.before.before.before.before.before in
+    let r = c.read_nodes-nodes.new in
+    let end = c.in-VerticesRead-nodes.end in
+    let e = nodes-say m (VerticesRead end) c.in-VerticesRead-nodes.is in (
+      tree_more a.n a.text.now a.from.at (parents_from c.read_leaves-leaves.new.parents 1 a.n) c.in-VerticesRead.next.at (leaves-read m).reads
+          (vertices_from r.parents r.xs r.ys (suc a.n) (a.n - 1)) end.at e.reads end.line e.line_is
           (ltb-true _ _ (sym c.bytes_follow.ensures ∙ c.if-bytes_follow.true)),
-      m.read_nodes-nodes.ensures.1.1,
+      c.read_nodes-nodes.ensures.1.1,
     )
 
 shape_of-parents : tie.Need-shape_of-parents
@@ -137,16 +123,16 @@ shape_of-ys c = search rules
 
 returns : tie.Need-returns
 returns c =
-    let m = c in
-    let a = (start (leaves m.before.before.before.before.before.before.before.before.before)).args in
-    let r = m.read_nodes-nodes.new.parents in
-    let g = c.nodes-1.given in
-    let e = nodes-say m (VerticesRead g.0.0) g.1 in (
-      tree_all a.n a.text.now a.from.at (parents_from (leaves m.before.before.before.before.before.before.before.before.before).read_leaves.new.1.1.1.0 1 a.n) (nodes-at m.before.before.before.before.before.before.before.before.before).at (leaves-read m).reads
-          (vertices_from r.0 r.1.0 r.1.1.0 (suc a.n) (a.n - 1)) g.0.0.at e.reads
+    let a = c.args in
+    let m = c.before.before.before.before.before.before.before in
+    let r = c.read_nodes-nodes.new in
+    let end = c.in-VerticesRead-nodes.end in
+    let e = nodes-say m (VerticesRead end) c.in-VerticesRead-nodes.is in (
+      tree_all a.n a.text.now a.from.at (parents_from c.read_leaves-leaves.new.parents 1 a.n) c.in-VerticesRead.next.at (leaves-read m).reads
+          (vertices_from r.parents r.xs r.ys (suc a.n) (a.n - 1)) end.at e.reads
           (ltb-false _ _ (sym c.bytes_follow.ensures ∙ c.if-bytes_follow.false))
-          ∙ ap value (tree_held a.n (leaves m.before.before.before.before.before.before.before.before.before).read_leaves.new.1.1.1.0 r.0 r.1.0 r.1.1.0 (start (leaves m.before.before.before.before.before.before.before.before.before)).requires.2 m.read_nodes-nodes.ensures.1.0),
-      m.read_nodes-nodes.ensures.1.1,
+          ∙ ap value (tree_held a.n c.read_leaves-leaves.new.parents r.parents r.xs r.ys c.requires.2 c.read_nodes-nodes.ensures.1.0),
+      c.read_nodes-nodes.ensures.1.1,
     )
 
 pub read_tree_spec : {M : Type 1} → statement M

@@ -21,58 +21,53 @@ use Rattle.reading.proofs.read_net.read_branch.Statement.{statement}
 use Rattle.reading.proofs.read_net.read_branch.Tie as tie
 
 up_to-requires : tie.Need-up_to-requires
-up_to-requires c = search rules
+up_to-requires c κs = search rules
 
 read_number-requires : tie.Need-read_number-requires
-read_number-requires c κs = search rules
-
-enum_known-refusal : tie.Need-enum_known-refusal
-enum_known-refusal c κs =
+read_number-requires c κs =
     let p = c.requires in
     (p.0, omega (arith, p.1), subst Narrow (sym c.up_to.ensures) (from_narrow branch_limit (omega arith) 1))
+
+enum_known-refusal : tie.Need-enum_known-refusal
+enum_known-refusal c = search rules
 
 enum_known-value : tie.Need-enum_known-value
 enum_known-value c = search rules
 
-of-requires : tie.Need-of-requires
-of-requires c = search rules
-
 -- the line has a number in its range
 abbrev next : tie.In-NumberRead → Place
-next t = t.before.value.given.0.1.0
+next t = t.in-NumberRead.next
 
 taken : (t : tie.In-NumberRead) → NumberTaken InNet branch_key (up_to branch_limit) t.args.text.now t.args.here t.in-NumberRead.value (next t)
 taken t =
-    let a = t.before.before.before.before.before.before.before.args in
-    let g = t.before.value.given in
-    said_taken InNet branch_key _ (up_to branch_limit) t.before.before.before.before.up_to.ensures a.text.now a.here _ t.before.before.before.read_number.ensures g.0.0 g.0.1.0 g.1
+    let a = t.args in
+    said_taken InNet branch_key _ (up_to branch_limit) t.up_to.ensures a.text.now a.here _ t.read_number.ensures t.in-NumberRead.value t.in-NumberRead.next t.in-NumberRead.is
 
 small : (t : tie.In-NumberRead) → SFits w64 t.in-NumberRead.value
-small t = let b = inside_bounds (up_to branch_limit) t.before.value.given.0.0 (taken t).in_range in omega (arith, whole, b.0, b.1)
+small t = let b = inside_bounds (up_to branch_limit) t.in-NumberRead.value (taken t).in_range in omega (arith, whole, b.0, b.1)
+
+of-requires : tie.Need-of-requires
+of-requires c κs = search rules
 
 read_wire-requires : tie.Need-read_wire-requires
-read_wire-requires c κs = search rules
-
-returns-in-NumberRefused : tie.Need-returns-in-NumberRefused
-returns-in-NumberRefused c κs =
+read_wire-requires c κs =
     let b = c in
     let t = (taken c.before).read_to in
     (t.within, omega (arith, t.line_is, b.requires.1), b.requires.2)
+
+returns-in-NumberRefused : tie.Need-returns-in-NumberRefused
+returns-in-NumberRefused c =
+    let b = c in
+    let a = b.args in
+    branch_refused a.text.now a.here a.root b.requires.1 c.in-NumberRefused.refusal (said_refused InNet branch_key _ (up_to branch_limit) c.up_to.ensures a.text.now a.here _ c.read_number.ensures c.in-NumberRefused.refusal c.in-NumberRefused.is)
 
 returns-in-NumberRead : tie.Need-returns-in-NumberRead
 returns-in-NumberRead c =
     let b = c in
     let a = b.args in
-    let g = c.refusal-1.given in
-    branch_refused a.text.now a.here a.root b.requires.1 g.0.0 (said_refused InNet branch_key _ (up_to branch_limit) c.up_to.ensures a.text.now a.here _ c.read_number.ensures g.0.0 g.1)
-
-returns-2 : tie.Need-returns-2
-returns-2 c =
-    let b = c in
-    let a = b.args in
     let t = c in
     says_by a.text.now c.read_wire.result
-    (branch_read a.text.now a.here a.root b.requires.1 t.in-NumberRead.value (next t) (taken t) _ (c.of.ensures ∙ to_z-of_z (small t)))
+    (branch_read a.text.now a.here a.root b.requires.1 t.in-NumberRead.value (next t.before.before) (taken t.before.before) _ (c.of.ensures ∙ to_z-of_z (small t.before.before)))
     c.read_wire.ensures
 
 pub read_branch_spec : {M : Type 1} → statement M
@@ -86,5 +81,4 @@ read_branch_spec =
     of-requires
     read_wire-requires
     returns-in-NumberRefused
-    returns-in-NumberRead
-    returns-2)
+    returns-in-NumberRead)

@@ -22,50 +22,45 @@ use Rattle.reading.proofs.read_net.read_count.Statement.{statement}
 use Rattle.reading.proofs.read_net.read_count.Tie as tie
 
 up_to-requires : tie.Need-up_to-requires
-up_to-requires c = search rules
+up_to-requires c κs = search rules
 
 read_number-requires : tie.Need-read_number-requires
-read_number-requires c κs = search rules
-
-enum_known-refusal : tie.Need-enum_known-refusal
-enum_known-refusal c κs =
+read_number-requires c κs =
     let p = c.requires in
     (p.0, omega (arith, p.1), subst Narrow (sym c.up_to.ensures) (from_narrow sink_limit (omega arith) 1))
+
+enum_known-refusal : tie.Need-enum_known-refusal
+enum_known-refusal c = search rules
 
 enum_known-value : tie.Need-enum_known-value
 enum_known-value c = search rules
 
-overflow_cast-result : tie.Need-overflow_cast-result
-overflow_cast-result c = search rules
-
 -- the line has a number in its range
 abbrev next : tie.In-NumberRead → Place
-next t = t.before.value.given.0.1.0
+next t = t.in-NumberRead.next
 
 taken : (t : tie.In-NumberRead) → NumberTaken InNet sinks_key (up_to sink_limit) t.args.text.now t.args.here t.in-NumberRead.value (next t)
 taken t =
-    let a = t.before.before.before.before.before.before.before.args in
-    let g = t.before.value.given in
-    said_taken InNet sinks_key _ (up_to sink_limit) t.before.before.before.before.up_to.ensures a.text.now a.here _ t.before.before.before.read_number.ensures g.0.0 g.0.1.0 g.1
+    let a = t.args in
+    said_taken InNet sinks_key _ (up_to sink_limit) t.up_to.ensures a.text.now a.here _ t.read_number.ensures t.in-NumberRead.value t.in-NumberRead.next t.in-NumberRead.is
 
 small : (t : tie.In-NumberRead) → SFits w64 t.in-NumberRead.value
-small t = let b = inside_bounds (up_to sink_limit) t.before.value.given.0.0 (taken t).in_range in omega (arith, whole, b.0, b.1)
+small t = let b = inside_bounds (up_to sink_limit) t.in-NumberRead.value (taken t).in_range in omega (arith, whole, b.0, b.1)
 
-returns-in-NumberRefused : tie.Need-returns-in-NumberRefused
-returns-in-NumberRefused c =
+overflow_cast-result : tie.Need-overflow_cast-result
+overflow_cast-result c =
     let z = c.in-NumberRead.value in
     let b = inside_bounds (up_to sink_limit) z (taken c).in_range in
     rw (to_z-of_z (small c)) (omega (arith, whole, b.0, b.1), omega (arith, whole, nat_abs_is z, b.0, b.1))
 
-returns-in-NumberRead : tie.Need-returns-in-NumberRead
-returns-in-NumberRead c =
+returns-in-NumberRefused : tie.Need-returns-in-NumberRefused
+returns-in-NumberRefused c =
     let b = c in
     let a = b.args in
-    let g = c.refusal-1.given in
-    count_refused a.text.now a.here a.root a.header b.requires.1 g.0.0 (said_refused InNet sinks_key _ (up_to sink_limit) c.up_to.ensures a.text.now a.here _ c.read_number.ensures g.0.0 g.1)
+    count_refused a.text.now a.here a.root a.header b.requires.1 c.in-NumberRefused.refusal (said_refused InNet sinks_key _ (up_to sink_limit) c.up_to.ensures a.text.now a.here _ c.read_number.ensures c.in-NumberRefused.refusal c.in-NumberRefused.is)
 
-returns-2 : tie.Need-returns-2
-returns-2 c =
+returns-in-NumberRead : tie.Need-returns-in-NumberRead
+returns-in-NumberRead c =
     let b = c in
     let a = b.args in
     count_read a.text.now a.here a.root a.header b.requires.1 b.requires.2 c.in-NumberRead.value (next c) (taken c) _ (ap nat_abs (to_z-of_z (small c)))
@@ -80,5 +75,4 @@ read_count_spec =
     enum_known-value
     overflow_cast-result
     returns-in-NumberRefused
-    returns-in-NumberRead
-    returns-2)
+    returns-in-NumberRead)

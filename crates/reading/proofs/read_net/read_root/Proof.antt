@@ -22,39 +22,36 @@ use Rattle.reading.proofs.read_net.read_root.Statement.{statement}
 use Rattle.reading.proofs.read_net.read_root.Tie as tie
 
 around-requires : tie.Need-around-requires
-around-requires c = search rules
+around-requires c κs = search rules
 
 read_pair-requires : tie.Need-read_pair-requires
-read_pair-requires c κs = search rules
+read_pair-requires c κs = (omega arith, omega arith, subst Narrow (sym c.around.ensures) (around_narrow position_limit (omega arith)))
 
 enum_known-refusal : tie.Need-enum_known-refusal
-enum_known-refusal c κs = (omega arith, omega arith, subst Narrow (sym c.around.ensures) (around_narrow position_limit (omega arith)))
+enum_known-refusal c = search rules
 
 enum_known-first : tie.Need-enum_known-first
 enum_known-first c = search rules
 
-read_branch-requires : tie.Need-read_branch-requires
-read_branch-requires c = search rules
-
 -- the line has two numbers in their range
 abbrev first : tie.In-PairRead → ℤ
-first t = t.before.first.given.0.0
+first t = t.in-PairRead.first
 
 abbrev second : tie.In-PairRead → ℤ
-second t = t.before.first.given.0.1.0
+second t = t.in-PairRead.second
 
 abbrev next : tie.In-PairRead → Place
-next t = t.before.first.given.0.1.1.0
+next t = t.in-PairRead.next
 
 abbrev start : tie.In-PairRead → tie.Start
-start t = t.before.before.before.before.before.before.before
+start t = t.before.before.before.before.before.before
 
 abbrev lineOne : Place
 lineOne = record { at = 0; line = 1 }
 
 taken : (t : tie.In-PairRead) → PairTaken root_key (around position_limit) (start t).args.text.now lineOne (first t) (second t) (next t)
 taken t =
-    pair_read root_key _ (around position_limit) t.before.before.before.before.around.ensures (start t).args.text.now lineOne _ t.before.before.before.read_pair.ensures (first t) (second t) (next t) t.before.first.given.1
+    pair_read root_key _ (around position_limit) t.around.ensures (start t).args.text.now lineOne _ t.read_pair.ensures (first t) (second t) (next t) t.in-PairRead.is
 
 position : (t : tie.In-PairRead) → Within position_limit (first t) × Within position_limit (second t)
 position t = let w = (taken t).in_range in (inside_bounds (around position_limit) (first t) w.0, inside_bounds (around position_limit) (second t) w.1)
@@ -62,24 +59,23 @@ position t = let w = (taken t).in_range in (inside_bounds (around position_limit
 small : (z : ℤ) → Within position_limit z → SFits w64 z
 small z h = omega (arith, whole, h.0, h.1)
 
-returns-in-PairRefused : tie.Need-returns-in-PairRefused
-returns-in-PairRefused c κs =
+read_branch-requires : tie.Need-read_branch-requires
+read_branch-requires c κs =
     let k = (taken c).read_to in
     let p = position c in
     (k.within, k.line_is, (rw (to_z-of_z (small (first c) p.0)) p.0, rw (to_z-of_z (small (second c) p.1)) p.1))
 
+returns-in-PairRefused : tie.Need-returns-in-PairRefused
+returns-in-PairRefused c =
+    let a = c.args in
+    root_refused a.text.now c.in-PairRefused.refusal (pair_refused root_key _ (around position_limit) c.around.ensures a.text.now lineOne _ c.read_pair.ensures c.in-PairRefused.refusal c.in-PairRefused.is)
+
 returns-in-PairRead : tie.Need-returns-in-PairRead
 returns-in-PairRead c =
-    let a = c.args in
-    let g = c.refusal-1.given in
-    root_refused a.text.now g.0.0 (pair_refused root_key _ (around position_limit) c.around.ensures a.text.now lineOne _ c.read_pair.ensures g.0.0 g.1)
-
-returns-2 : tie.Need-returns-2
-returns-2 c =
     let t = c in
-    let p = position t in
-    says_by (start t).args.text.now c.read_branch.result
-    (root_read_lem (start t).args.text.now (first t) (second t) (next t) (taken t) _ (to_z-of_z (small (first t) p.0)) (to_z-of_z (small (second t) p.1)))
+    let p = position t.before in
+    says_by (start t.before).args.text.now c.read_branch.result
+    (root_read_lem (start t.before).args.text.now (first t.before) (second t.before) (next t.before) (taken t.before) _ (to_z-of_z (small (first t.before) p.0)) (to_z-of_z (small (second t.before) p.1)))
     c.read_branch.ensures
 
 pub read_root_spec : {M : Type 1} → statement M
@@ -92,5 +88,4 @@ read_root_spec =
     enum_known-first
     read_branch-requires
     returns-in-PairRefused
-    returns-in-PairRead
-    returns-2)
+    returns-in-PairRead)

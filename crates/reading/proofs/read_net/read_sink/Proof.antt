@@ -9,7 +9,6 @@ use mir.Syntax.{w64}
 use mir.Val.{to_z, of_z}
 use mir.Facts.{to_z-of_z}
 use borrow.Author.Rules.{rules}
-use borrow.Author.Tests.{not-true, not-false}
 use Rattle.quantities.specs.Inner.Linear.{fit}
 use Rattle.quantities.specs.declared.point.Point.{Point}
 use Rattle.tree.specs.Limits.{position_limit, required_limit, weight_limit}
@@ -30,7 +29,7 @@ use Rattle.reading.proofs.read_net.read_sink.Statement.{statement}
 use Rattle.reading.proofs.read_net.read_sink.Tie as tie
 
 abbrev start : tie.In-AsDue → tie.Start
-start t = t.before.before.before.before.before.before
+start t = t.before.before.before.before.before
 
 abbrev text : tie.In-AsDue → List ℕ
 text t = (start t).args.text.now
@@ -42,38 +41,35 @@ abbrev root : tie.In-AsDue → Point
 root t = (start t).args.root
 
 abbrev numbers : tie.In-AsDue → Numbers
-numbers t = t.before.numbers.given.0.0
+numbers t = t.in-AsDue.numbers
 
 abbrev next : tie.In-AsDue → Place
-next t = t.before.numbers.given.0.1.0
+next t = t.in-AsDue.next
 
 read_line-requires : tie.Need-read_line-requires
-read_line-requires c = search rules
+read_line-requires c κs = search rules
 
 enum_known-numbers : tie.Need-enum_known-numbers
-enum_known-numbers c κs = search rules
+enum_known-numbers c = search rules
 
 enum_told-1 : tie.Need-enum_told-1
 enum_told-1 c = search rules
 
 returns-in_default : tie.Need-returns-in_default
-returns-in_default c = search rules
-
-sink_in_range-requires : tie.Need-sink_in_range-requires
-sink_in_range-requires c =
+returns-in_default c =
     let a = c.args in
     sink_wrong a.root a.text.now a.here (wrong_line sink_key 4 a.text.now a.here.at a.here.line (sym c.in_default.is ∙ c.read_line.ensures))
 
 there : (t : tie.In-AsDue) → (Spelt (numbers t) (next t).at ≡ line_at (here t).at (line_in sink_key 4 (drop (here t).at (text t)))) × ((next t).line ≡ (here t).line + 1)
-there t = right_line sink_key 4 (text t) (here t).at (here t).line (numbers t) (next t) (sym t.before.numbers.given.1 ∙ t.before.before.before.read_line.ensures)
+there t = right_line sink_key 4 (text t) (here t).at (here t).line (numbers t) (next t) (sym t.in-AsDue.is ∙ t.read_line.ensures)
+
+sink_in_range-requires : tie.Need-sink_in_range-requires
+sink_in_range-requires c κs = search rules
 
 returns-then-not-sink_in_range : tie.Need-returns-then-not-sink_in_range
-returns-then-not-sink_in_range c κs = search rules
-
-value-requires : tie.Need-value-requires
-value-requires c =
+returns-then-not-sink_in_range c =
     let t = c in
-    sink_out (root t.before.before.before.before.before.before) (text t.before.before.before.before.before.before) (here t.before.before.before.before.before.before) (numbers t.before.before.before.before.before.before) (next t.before.before.before.before.before.before).at (there t).0 (failed c.sink_in_range.result sink_ranges (listed (numbers t.before.before.before.before.before.before)) c.sink_in_range.ensures (not-true _ c.if-not-sink_in_range.true))
+    sink_out (root t.before.before) (text t.before.before) (here t.before.before) (numbers t.before.before) (next t.before.before).at (there t.before.before).0 (failed c.sink_in_range.result sink_ranges (listed (numbers t.before.before)) c.sink_in_range.ensures c.if-not-sink_in_range.true)
 
 -- the line where its numbers are in range
 abbrev line : tie.After-weight-1 → tie.In-AsDue
@@ -86,64 +82,66 @@ taken c =
       few = omega arith;
       spelt = (there (line c)).0;
       narrow = (around_narrow position_limit (omega arith), (around_narrow position_limit (omega arith), (around_narrow required_limit (omega arith), (from_narrow weight_limit (omega arith) 1, tt))));
-      passed = passed e.sink_in_range.result sink_ranges (listed (numbers (line c))) e.sink_in_range.ensures (not-false _ e.if-not-sink_in_range.false);
+      passed = passed e.sink_in_range.result sink_ranges (listed (numbers (line c))) e.sink_in_range.ensures e.if-not-sink_in_range.false;
     }
 
+value-requires : tie.Need-value-requires
+value-requires c κs = (taken_small InNet (taken c)).0
+
 value-requires-2 : tie.Need-value-requires-2
-value-requires-2 c κs = (taken_small InNet (taken c.before)).0
+value-requires-2 c κs = (taken_small InNet (taken c.before)).1.0
 
 is_far-requires : tie.Need-is_far-requires
-is_far-requires c κs = (taken_small InNet (taken c.before.before)).1.0
+is_far-requires c κs =
+    let e = c in
+    let v = c.value in
+    let w = c.value-2 in
+    ((start (line e.before.before)).requires.2, point_within InNet (taken e.before.before) _ (to_z-of_z (fit v.result v.type_inv) ∙ v.ensures) (to_z-of_z (fit w.result w.type_inv) ∙ w.ensures))
 
 returns-then-is_far : tie.Need-returns-then-is_far
-returns-then-is_far c κs =
+returns-then-is_far c =
     let e = c in
+    let n = line e.before.before.before.before in
     let v = c.value in
     let w = c.value-2 in
-    ((start (line e.before.before.before.before)).requires.2, point_within InNet (taken e.before.before.before.before) _ (to_z-of_z (fit v.result v.type_inv) ∙ v.ensures) (to_z-of_z (fit w.result w.type_inv) ∙ w.ensures))
-
-offset_bounds-xs-s : tie.Need-offset_bounds-xs-s
-offset_bounds-xs-s c =
-    let e = c in
-    let n = line e.before.before.before.before.before.before in
-    let v = c.value in
-    let w = c.value-2 in
-    sink_far (root n) (text n) (here n) (numbers n) (next n).at (taken e.before.before.before.before.before.before) _ (to_z-of_z (fit v.result v.type_inv) ∙ v.ensures) (to_z-of_z (fit w.result w.type_inv) ∙ w.ensures) (sym c.if-is_far.true ∙ c.is_far.ensures)
+    sink_far (root n) (text n) (here n) (numbers n) (next n).at (taken e.before.before.before.before) _ (to_z-of_z (fit v.result v.type_inv) ∙ v.ensures) (to_z-of_z (fit w.result w.type_inv) ∙ w.ensures) (sym c.if-is_far.true ∙ c.is_far.ensures)
 
 -- the line where its pin is near enough besides
 abbrev near : tie.After-struct_told-2-1 → tie.After-weight-1
 near c = c.before.before.before.before.before.before
 
-bounds-xs-s : tie.Need-bounds-xs-s
-bounds-xs-s c =
+offset_bounds-xs-s : tie.Need-offset_bounds-xs-s
+offset_bounds-xs-s c =
     let p = start (line (near c)) in
-    let g = p.good.1.1.1.1.0 in
     let b = p.requires.3.0 in
     search rules
 
+bounds-xs-s : tie.Need-bounds-xs-s
+bounds-xs-s c = search rules
+
 offset_bounds-ys-s : tie.Need-offset_bounds-ys-s
-offset_bounds-ys-s c = search rules
+offset_bounds-ys-s c = offset_bounds-xs-s c
 
 bounds-ys-s : tie.Need-bounds-ys-s
-bounds-ys-s c = bounds-xs-s c
+bounds-ys-s c = search rules
 
 value-requires-3 : tie.Need-value-requires-3
-value-requires-3 c = search rules
+value-requires-3 c κs = (taken_small InNet (taken (near c))).1.1.0
 
 offset_bounds-required-s : tie.Need-offset_bounds-required-s
-offset_bounds-required-s c κs = (taken_small InNet (taken (near c.before))).1.1.0
+offset_bounds-required-s c = offset_bounds-xs-s c.before
 
 bounds-required-s : tie.Need-bounds-required-s
-bounds-required-s c = bounds-xs-s c.before
+bounds-required-s c = search rules
 
 value-requires-4 : tie.Need-value-requires-4
-value-requires-4 c = search rules
+value-requires-4 c κs = (taken_small InNet (taken (near c.before))).1.1.1.0
 
 offset_bounds-weights-s : tie.Need-offset_bounds-weights-s
-offset_bounds-weights-s c κs = (taken_small InNet (taken (near c.before.before))).1.1.1.0
+offset_bounds-weights-s c = offset_bounds-xs-s c.before.before
 
 bounds-weights-s : tie.Need-bounds-weights-s
-bounds-weights-s c = bounds-xs-s c.before.before
+bounds-weights-s c = search rules
 
 shape_of-xs : tie.Need-shape_of-xs
 shape_of-xs c = search rules
@@ -158,12 +156,9 @@ shape_of-weights : tie.Need-shape_of-weights
 shape_of-weights c = search rules
 
 returns : tie.Need-returns
-returns c = search rules
-
-returns-4 : tie.Need-returns-4
-returns-4 c =
+returns c =
     let d = c in
-    let e = near d in
+    let e = near d.before.before in
     let n = line e in
     let p = start n in
     let v = d.value in
@@ -216,5 +211,4 @@ read_sink_spec =
     shape_of-ys
     shape_of-required
     shape_of-weights
-    returns
-    returns-4)
+    returns)

@@ -53,9 +53,8 @@ returns-in-SinkRefused : tie.Need-returns-in-SinkRefused invariant-loop-done dec
 returns-in-SinkRefused c h =
     let k = c in
     let v = k.loop-done in
-    let g = c.refusal-1.given in
     let a = k.args in
-    rest_refused h a.root a.n (drop a.from.at a.text.now) g.0.0 (sinking_refused _ _ _ _ _ _ _ _ _ v.here v.done v.invariant.0 k.loop-done-test.true g.0.0 (rw g.1 at k.read_sink.ensures))
+    rest_refused h a.root a.n (drop a.from.at a.text.now) c.in-SinkRefused.refusal (sinking_refused _ _ _ _ _ _ _ _ _ v.here v.done v.invariant.0 k.loop-done-test.true c.in-SinkRefused.refusal (rw c.in-SinkRefused.is at k.read_sink.ensures))
 
 overflow_add-done-in-loop-done : tie.Need-overflow_add-done-in-loop-done invariant-loop-done decreases-loop-done
 overflow_add-done-in-loop-done c = search rules
@@ -67,9 +66,8 @@ loop-done-preserved : tie.Need-loop-done-preserved invariant-loop-done decreases
 loop-done-preserved c =
     let k = c in
     let v = k.loop-done in
-    let g = c.next-1.given in
     let p = k.read_sink in
-    (sinking_more _ _ _ _ _ _ _ _ _ v.here v.done v.invariant.0 k.loop-done-test.true g.0.0 _ _ _ _ (rw g.1 at p.ensures), p.auto.xs ∙ v.invariant.1, p.auto.ys ∙ v.invariant.2, p.auto.required ∙ v.invariant.3, p.auto.weights ∙ v.invariant.4)
+    (sinking_more _ _ _ _ _ _ _ _ _ v.here v.done v.invariant.0 k.loop-done-test.true c.in-SinkRead.next _ _ _ _ (rw c.in-SinkRead.is at p.ensures), p.auto.xs ∙ v.invariant.1, p.auto.ys ∙ v.invariant.2, p.auto.required ∙ v.invariant.3, p.auto.weights ∙ v.invariant.4)
 
 bytes_follow-requires : tie.Need-bytes_follow-requires invariant-loop-done decreases-loop-done
 bytes_follow-requires c κs = search rules

@@ -3,7 +3,6 @@ use mathlib.Core.Path.{sym, subst, ap, ◌∙◌}
 use mathlib.Core.Logic.{inl, inr}
 use mathlib.Core.Bool.{Bool, true, false}
 use native.Mathlib.Omega.{arith}
-use borrow.Author.Tests.{not-true, not-false}
 use Rattle.tree.specs.Limits.{position_limit, required_limit, weight_limit}
 use Rattle.formats.specs.Ranges.{around, up_to}
 use Rattle.formats.specs.Reading.Lines.{inside}
@@ -27,7 +26,7 @@ is_inside-requires : tie.Need-is_inside-requires
 is_inside-requires c κs = subst Narrow (sym c.around.ensures) (around_narrow position_limit (omega arith))
 
 returns-then-not-is_inside : tie.Need-returns-then-not-is_inside
-returns-then-not-is_inside c = inl (λ z e. sym (not-true _ c.if-not-is_inside.true) ∙ c.is_inside.ensures z e ∙ ap (λ r. inside r z) c.around.ensures)
+returns-then-not-is_inside c = inl (λ z e. sym c.if-not-is_inside.true ∙ c.is_inside.ensures z e ∙ ap (λ r. inside r z) c.around.ensures)
 
 around-requires-2 : tie.Need-around-requires-2
 around-requires-2 c κs = search rules
@@ -36,7 +35,7 @@ is_inside-requires-2 : tie.Need-is_inside-requires-2
 is_inside-requires-2 c κs = subst Narrow (sym c.around-2.ensures) (around_narrow position_limit (omega arith))
 
 returns-then-not-is_inside-2 : tie.Need-returns-then-not-is_inside-2
-returns-then-not-is_inside-2 c = inr (inl (λ z e. sym (not-true _ c.if-not-is_inside-2.true) ∙ c.is_inside-2.ensures z e ∙ ap (λ r. inside r z) c.around-2.ensures))
+returns-then-not-is_inside-2 c = inr (inl (λ z e. sym c.if-not-is_inside-2.true ∙ c.is_inside-2.ensures z e ∙ ap (λ r. inside r z) c.around-2.ensures))
 
 around-requires-3 : tie.Need-around-requires-3
 around-requires-3 c κs = search rules
@@ -45,7 +44,7 @@ is_inside-requires-3 : tie.Need-is_inside-requires-3
 is_inside-requires-3 c κs = subst Narrow (sym c.around-3.ensures) (around_narrow required_limit (omega arith))
 
 returns-then-not-is_inside-3 : tie.Need-returns-then-not-is_inside-3
-returns-then-not-is_inside-3 c = inr (inr (inl (λ z e. sym (not-true _ c.if-not-is_inside-3.true) ∙ c.is_inside-3.ensures z e ∙ ap (λ r. inside r z) c.around-3.ensures)))
+returns-then-not-is_inside-3 c = inr (inr (inl (λ z e. sym c.if-not-is_inside-3.true ∙ c.is_inside-3.ensures z e ∙ ap (λ r. inside r z) c.around-3.ensures)))
 
 up_to-requires : tie.Need-up_to-requires
 up_to-requires c κs = search rules
@@ -59,9 +58,9 @@ returns c =
     let second = third in
     let first = second in
     by_last _ c.is_inside-4.result
-    (λ z e. sym (not-false _ first.if-not-is_inside.false) ∙ first.is_inside.ensures z e ∙ ap (λ r. inside r z) first.around.ensures)
-    (λ z e. sym (not-false _ second.if-not-is_inside-2.false) ∙ second.is_inside-2.ensures z e ∙ ap (λ r. inside r z) second.around-2.ensures)
-    (λ z e. sym (not-false _ third.if-not-is_inside-3.false) ∙ third.is_inside-3.ensures z e ∙ ap (λ r. inside r z) third.around-3.ensures)
+    (λ z e. sym first.if-not-is_inside.false ∙ first.is_inside.ensures z e ∙ ap (λ r. inside r z) first.around.ensures)
+    (λ z e. sym second.if-not-is_inside-2.false ∙ second.is_inside-2.ensures z e ∙ ap (λ r. inside r z) second.around-2.ensures)
+    (λ z e. sym third.if-not-is_inside-3.false ∙ third.is_inside-3.ensures z e ∙ ap (λ r. inside r z) third.around-3.ensures)
     (λ z e. c.is_inside-4.ensures z e ∙ ap (λ r. inside r z) c.up_to.ensures)
 
 pub sink_in_range_spec : {M : Type 1} → statement M

@@ -35,7 +35,7 @@ sinks-back c = plain_back c.args.n (omega (arith, c.requires.2))
 
 -- each line's length, and that it is short
 abbrev from1 : tie.After-line1_length-first → tie.Start
-from1 c = c.before.before.before
+from1 c = c.before.before.before.before
 
 slack_is : (c : tie.After-line1_length-first) → (c.line1_length-first.result ≡ length (line_text slack_key ((from1 c).args.slack.0 ∷ []))) × (c.line1_length-first.result ≤ 24)
 slack_is c =
@@ -43,7 +43,7 @@ slack_is c =
     (e, omega (arith, e, line1_short slack_key (from1 c).args.slack.0 (slack-writable (from1 c))))
 
 abbrev from2 : tie.After-line1_length-second → tie.Start
-from2 c = c.before.before.before.before.before.before
+from2 c = c.before.before.before.before.before.before.before.before
 
 wire_is : (c : tie.After-line1_length-second) → (c.line1_length-second.result ≡ length (line_text wire_key (pos (from2 c).args.wire.0 ∷ []))) × (c.line1_length-second.result ≤ 23)
 wire_is c =
@@ -51,7 +51,7 @@ wire_is c =
     (e, omega (arith, e, line1_short wire_key (pos (from2 c).args.wire.0) (omega (arith, (from2 c).requires.1))))
 
 abbrev from3 : tie.After-line1_length → tie.Start
-from3 c = c.before.before.before.before.before.before.before.before
+from3 c = c.before.before.before.before.before.before.before.before.before.before.before
 
 sinks-is : (c : tie.After-line1_length) → (c.line1_length.result ≡ length (line_text sinks_key (pos (from3 c).args.n ∷ []))) × (c.line1_length.result ≤ 24)
 sinks-is c =
@@ -59,47 +59,38 @@ sinks-is c =
     (e, omega (arith, e, line1_short sinks_key (pos (from3 c).args.n) (omega (arith, (from3 c).requires.2))))
 
 attoseconds-requires : tie.Need-attoseconds-requires
-attoseconds-requires c = search rules
+attoseconds-requires c κs = search rules
 
 line1_length-first-requires : tie.Need-line1_length-first-requires
-line1_length-first-requires c κs = search rules
+line1_length-first-requires c κs = rw (slack-back c) (slack-writable c.before.before.before)
 
 nanometres-requires : tie.Need-nanometres-requires
-nanometres-requires c κs = rw (slack-back c.before.before.before) (slack-writable c.before.before.before.before.before.before)
+nanometres-requires c κs = search rules
 
 overflow_cast-nanometres : tie.Need-overflow_cast-nanometres
 overflow_cast-nanometres c = search rules
 
 line1_length-second-requires : tie.Need-line1_length-second-requires
-line1_length-second-requires c κs = search rules
+line1_length-second-requires c κs = rw (wire-back c) (omega (arith, c.requires.1))
 
 overflow_add-result : tie.Need-overflow_add-result
-overflow_add-result c = search rules
+overflow_add-result c = omega (arith, (slack_is c.before.before.before.before).1, (wire_is c).1)
 
 overflow_cast-n : tie.Need-overflow_cast-n
-overflow_cast-n c κs = rw (wire-back c.before.before.before) (omega (arith, c.requires.1))
+overflow_cast-n c = search rules
 
 line1_length-requires : tie.Need-line1_length-requires
-line1_length-requires c = omega (arith, (slack_is c.before.before.before.before.before.before).1, (wire_is c.before.before).1)
+line1_length-requires c κs =
+    let st = c in
+    rw (sinks-back st.before.before.before.before.before.before.before.before.before.before) (omega (arith, st.requires.2))
 
 overflow_add-result-2 : tie.Need-overflow_add-result-2
-overflow_add-result-2 c = search rules
-
-returns : tie.Need-returns
-returns c = search rules
-
-line1-length-requires-3 : tie.Need-line1-length-requires-3
-line1-length-requires-3 c κs =
-    let st = c in
-    rw (sinks-back st) (omega (arith, st.requires.2))
-
-add-result-2 : tie.Need-overflow-add-result-2
-add-result-2 c = omega (arith, (slack_is c.before.before.before.before.before).1, (wire_is c.before.before).1, (sinks-is c).1)
+overflow_add-result-2 c = omega (arith, (slack_is c.before.before.before.before.before.before.before).1, (wire_is c.before.before.before).1, (sinks-is c).1)
 
 returns : tie.Need-returns
 returns c =
     let a = (from3 c).args in
-    omega (arith, (slack_is c.before.before.before.before.before).0, (wire_is c.before.before).0, (sinks-is c).0, head_parts a.slack.0 a.wire.0 a.n)
+    omega (arith, (slack_is c.before.before.before.before.before.before.before).0, (wire_is c.before.before.before).0, (sinks-is c).0, head_parts a.slack.0 a.wire.0 a.n)
 
 pub head_length_spec : {M : Type 1} → statement M
 head_length_spec =
@@ -114,7 +105,4 @@ head_length_spec =
     overflow_cast-n
     line1_length-requires
     overflow_add-result-2
-    returns
-    line1-length-requires-3
-    add-result-2
     returns)

@@ -25,22 +25,19 @@ bounds-parents-k : tie.Need-bounds-parents-k
 bounds-parents-k c = search rules
 
 overflow_cast-parents : tie.Need-overflow_cast-parents
-overflow_cast-parents c = search rules
+overflow_cast-parents c = record { sfits = omega (arith, small c.before.before.before.before) }
 
 line2_length-requires : tie.Need-line2_length-requires
-line2_length-requires c = record { sfits = omega (arith, small c.before.before.before.before) }
-
-returns : tie.Need-returns
-returns c κs =
+line2_length-requires c κs =
     let st = c in
     let a = st.args in
-    (natural_writable a.k (omega (arith, st.requires.0.few)), natural_writable (get_or a.parents.now a.k 0) (omega (arith, small st.before.before.before.before.before)))
+    (natural_writable a.k (omega (arith, st.requires.0.few)), natural_writable (get_or a.parents.now a.k 0) (omega (arith, small st.before.before.before.before)))
 
 returns : tie.Need-returns
 returns c =
     let st = c in
     let a = st.args in
-    let line = leaf_is a.n a.parents.now st.requires.0 a.k st.requires.1 (inside st) in
+    let line = leaf_is a.n a.parents.now st.requires.0 a.k st.requires.1 (inside st.before.before.before.before.before) in
     subst (λ (s : List ℕ). c.line2_length.result ≡ length s) line c.line2_length.ensures
 
 pub leaf_length_spec : {M : Type 1} → statement M
@@ -52,5 +49,4 @@ leaf_length_spec =
     bounds-parents-k
     overflow_cast-parents
     line2_length-requires
-    returns
     returns)

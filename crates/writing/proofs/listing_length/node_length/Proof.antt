@@ -26,10 +26,10 @@ bounds-parents-k : tie.Need-bounds-parents-k
 bounds-parents-k c = search rules
 
 overflow_cast-parents : tie.Need-overflow_cast-parents
-overflow_cast-parents c = search rules
+overflow_cast-parents c = record { sfits = omega (arith, small c.before.before.before.before) }
 
 offset_bounds-xs-k : tie.Need-offset_bounds-xs-k
-offset_bounds-xs-k c = record { sfits = omega (arith, small c.before.before.before.before) }
+offset_bounds-xs-k c = search rules
 
 bounds-xs-k : tie.Need-bounds-xs-k
 bounds-xs-k c = search rules
@@ -41,15 +41,12 @@ bounds-ys-k : tie.Need-bounds-ys-k
 bounds-ys-k c = search rules
 
 line4_length-requires : tie.Need-line4_length-requires
-line4_length-requires c = search rules
-
-returns : tie.Need-returns
-returns c κs =
+line4_length-requires c κs =
     let st = c in
     let a = st.args in
     let w = st.requires.1.2 in (
       natural_writable a.k (omega (arith, st.requires.0.0.few)),
-      natural_writable (get_or a.parents.now a.k 0) (omega (arith, small st.before.before.before.before.before.before.before)),
+      natural_writable (get_or a.parents.now a.k 0) (omega (arith, small st.before.before.before.before.before.before)),
       rw (within_back position_limit _ (omega arith) w.0) (within_writable position_limit _ (omega arith) w.0),
       rw (within_back position_limit _ (omega arith) w.1) (within_writable position_limit _ (omega arith) w.1),
     )
@@ -58,7 +55,7 @@ returns : tie.Need-returns
 returns c =
     let st = c in
     let a = st.args in
-    let line = node_is a.n a.parents.now st.requires.0.0 a.k (below st) st.requires.1.1 a.xs.now a.ys.now st.requires.1.0 st.requires.1.2 in
+    let line = node_is a.n a.parents.now st.requires.0.0 a.k (below st.before.before.before.before.before.before.before) st.requires.1.1 a.xs.now a.ys.now st.requires.1.0 st.requires.1.2 in
     subst (λ (s : List ℕ). c.line4_length.result ≡ length s) line c.line4_length.ensures
 
 pub node_length_spec : {M : Type 1} → statement M
@@ -74,5 +71,4 @@ node_length_spec =
     offset_bounds-ys-k
     bounds-ys-k
     line4_length-requires
-    returns
     returns)

@@ -10,7 +10,7 @@ use Rattle.writing.proofs.net_length.head_length.Statement.{statement}
 use Rattle.writing.proofs.net_length.head_length.Tie as tie
 
 abbrev start : tie.After-line1_length-fifth → tie.Start
-start c = c.before.before.before.before.before.before.before.before.before.before.before.before.before.before.before.before.before
+start c = c.before.before.before.before.before.before.before.before.before.before.before.before.before.before.before.before.before.before.before.before.before.before.before.before.before.before
 
 short : (c : tie.Start) → length (net_head_text c.args.header c.args.root c.args.n) ≤ 154
 short c = head_short c.args.header c.args.root c.args.n c.requires
@@ -44,65 +44,50 @@ overflow_cast-vertical : tie.Need-overflow_cast-vertical
 overflow_cast-vertical c = search rules
 
 line2_length-first-requires : tie.Need-line2_length-first-requires
-line2_length-first-requires c = search rules
-
-attoseconds-requires : tie.Need-attoseconds-requires
-attoseconds-requires c κs =
+line2_length-first-requires c κs =
     let st = c in
     root_writable st.args.header st.args.root st.args.n st.requires
 
+attoseconds-requires : tie.Need-attoseconds-requires
+attoseconds-requires c κs = search rules
+
 line1_length-second-requires : tie.Need-line1_length-second-requires
-line1_length-second-requires c = search rules
-
-line2_length-third-requires : tie.Need-line2_length-third-requires
-line2_length-third-requires c κs = search rules
-
-attoseconds-requires-2 : tie.Need-attoseconds-requires-2
-attoseconds-requires-2 c κs =
+line1_length-second-requires c κs =
     let st = c in
     branch_writable st.args.header st.args.root st.args.n st.requires _ c.attoseconds.ensures
 
-line1_length-fourth-requires : tie.Need-line1_length-fourth-requires
-line1_length-fourth-requires c = search rules
-
-overflow_cast-n : tie.Need-overflow_cast-n
-overflow_cast-n c κs =
+line2_length-third-requires : tie.Need-line2_length-third-requires
+line2_length-third-requires c κs =
     let st = c in
     wire_writable st.args.header st.args.root st.args.n st.requires _ _ c.attoseconds_per_nanometre-horizontal.ensures c.attoseconds_per_nanometre-vertical.ensures
 
-line1_length-fifth-requires : tie.Need-line1_length-fifth-requires
-line1_length-fifth-requires c = search rules
+attoseconds-requires-2 : tie.Need-attoseconds-requires-2
+attoseconds-requires-2 c κs = search rules
 
-overflow_add-result : tie.Need-overflow_add-result
-overflow_add-result c κs = search rules
-
-overflow_add-result-2 : tie.Need-overflow_add-result-2
-overflow_add-result-2 c κs =
+line1_length-fourth-requires : tie.Need-line1_length-fourth-requires
+line1_length-fourth-requires c κs =
     let st = c in
     need_writable st.args.header st.args.root st.args.n st.requires _ c.attoseconds-2.ensures
 
-overflow_add-result-3 : tie.Need-overflow_add-result-3
-overflow_add-result-3 c = search rules
+overflow_cast-n : tie.Need-overflow_cast-n
+overflow_cast-n c = search rules
 
-overflow_add-result-4 : tie.Need-overflow_add-result-4
-overflow_add-result-4 c = search rules
-
-returns : tie.Need-returns
-returns c κs =
+line1_length-fifth-requires : tie.Need-line1_length-fifth-requires
+line1_length-fifth-requires c κs =
     let st = c in
     count_writable st.args.header st.args.root st.args.n st.requires
 
-add-result-4 : tie.Need-overflow-add-result-4
-add-result-4 c = omega (arith, sum_is c, short (start c))
+overflow_add-result-4 : tie.Need-overflow_add-result-4
+overflow_add-result-4 c = omega (arith, sum_is c, short (start c))
 
-add-result : tie.Need-overflow-add-result
-add-result c = omega (arith, add-result-4 c)
+overflow_add-result : tie.Need-overflow_add-result
+overflow_add-result c = omega (arith, overflow_add-result-4 c)
 
-add-result-2 : tie.Need-overflow-add-result-2
-add-result-2 c = omega (arith, add-result-4 c)
+overflow_add-result-2 : tie.Need-overflow_add-result-2
+overflow_add-result-2 c = omega (arith, overflow_add-result-4 c)
 
-add-result-3 : tie.Need-overflow-add-result-3
-add-result-3 c = omega (arith, add-result-4 c)
+overflow_add-result-3 : tie.Need-overflow_add-result-3
+overflow_add-result-3 c = omega (arith, overflow_add-result-4 c)
 
 returns : tie.Need-returns
 returns c = sum_is c
@@ -127,9 +112,4 @@ head_length_spec =
     overflow_add-result-2
     overflow_add-result-3
     overflow_add-result-4
-    returns
-    add-result
-    add-result-2
-    add-result-3
-    add-result-4
     returns)

@@ -33,10 +33,7 @@ bounds-weights-k : tie.Need-bounds-weights-k
 bounds-weights-k c = search rules
 
 line4_length-requires : tie.Need-line4_length-requires
-line4_length-requires c = search rules
-
-returns : tie.Need-returns
-returns c κs =
+line4_length-requires c κs =
     let st = c in
     let a = st.args in
     sink_writable a.xs.now a.ys.now a.required.now a.weights.now a.k st.requires
@@ -61,5 +58,4 @@ sink_length_spec =
     offset_bounds-weights-k
     bounds-weights-k
     line4_length-requires
-    returns
     returns)

@@ -48,13 +48,13 @@ sinks-back c = plain_back c.args.n (omega (arith, c.requires.0.2))
 
 -- the first line, and the first two
 abbrev from1 : tie.After-put_line1-first → tie.Start
-from1 c = c.before.before.before.before.before
+from1 c = c.before.before.before.before.before.before
 
 slack-put : (c : tie.After-put_line1-first) → Puts (from1 c).args.out.now 0 (slack_line (from1 c)) c.put_line1-first.result c.put_line1-first.new.out
 slack-put c = rw (slack-back c.before) at c.put_line1-first.ensures
 
 abbrev from2 : tie.After-put_line1-second → tie.Start
-from2 c = c.before.before.before.before.before.before.before.before.before.before.before
+from2 c = c.before.before.before.before.before.before.before.before.before.before.before.before.before
 
 front-put : (c : tie.After-put_line1-second) → Puts (from2 c).args.out.now 0 (slack_line (from2 c) ++ wire_line (from2 c)) c.put_line1-second.result c.put_line1-second.new.out
 front-put c =
@@ -63,21 +63,23 @@ front-put c =
     puts_both _ _ (slack_line st) (wire_line st) (front-room st) _ _ (slack-put c.before.before.before.before.before.before.before) _ _ next
 
 attoseconds-requires : tie.Need-attoseconds-requires
-attoseconds-requires c = search rules
+attoseconds-requires c κs = search rules
 
 put_line1-first-requires : tie.Need-put_line1-first-requires
-put_line1-first-requires c κs = search rules
+put_line1-first-requires c κs =
+    let st = c in
+    rw (slack-back c) (within_writable slack_limit _ (omega arith) st.requires.0.0, fits_first st.args.out.now 0 (slack_line st.before.before.before.before.before) (wire_line st.before.before.before.before.before) (front-room st.before.before.before.before.before))
 
 nanometres-requires : tie.Need-nanometres-requires
-nanometres-requires c κs =
-    let st = c in
-    rw (slack-back c.before.before.before.before.before.before) (within_writable slack_limit _ (omega arith) st.requires.0.0, fits_first st.args.out.now 0 (slack_line st.before.before.before.before.before.before.before.before.before.before.before) (wire_line st.before.before.before.before.before.before.before.before.before.before.before) (front-room st.before.before.before.before.before.before.before.before.before.before.before))
+nanometres-requires c κs = search rules
 
 overflow_cast-nanometres : tie.Need-overflow_cast-nanometres
 overflow_cast-nanometres c = search rules
 
 put_line1-second-requires : tie.Need-put_line1-second-requires
-put_line1-second-requires c κs = search rules
+put_line1-second-requires c κs =
+    let st = c in
+    rw (wire-back c) (omega (arith, st.requires.0.1), fits_next _ _ (slack_line st.before.before.before.before.before.before.before.before.before.before.before.before) (wire_line st.before.before.before.before.before.before.before.before.before.before.before.before) (front-room st.before.before.before.before.before.before.before.before.before.before.before.before) _ _ (slack-put c.before.before.before.before.before.before))
 
 overflow_cast-n : tie.Need-overflow_cast-n
 overflow_cast-n c = search rules
@@ -85,27 +87,16 @@ overflow_cast-n c = search rules
 put_line1-requires : tie.Need-put_line1-requires
 put_line1-requires c κs =
     let st = c in
-    rw (wire-back c.before.before.before.before.before.before) (omega (arith, st.requires.0.1), fits_next _ _ (slack_line st.before.before.before.before.before.before.before.before.before.before.before.before.before.before.before.before.before.before) (wire_line st.before.before.before.before.before.before.before.before.before.before.before.before.before.before.before.before.before.before) (front-room st.before.before.before.before.before.before.before.before.before.before.before.before.before.before.before.before.before.before) _ _ (slack-put c.before.before.before.before.before.before.before.before.before.before.before.before))
+    rw (sinks-back st.before.before.before.before.before.before.before.before.before.before.before.before.before.before.before.before.before.before) (omega (arith, st.requires.0.2), fits_next _ _ (slack_line st.before.before.before.before.before.before.before.before.before.before.before.before.before.before.before.before.before.before ++ wire_line st.before.before.before.before.before.before.before.before.before.before.before.before.before.before.before.before.before.before) (sinksLine st.before.before.before.before.before.before.before.before.before.before.before.before.before.before.before.before.before.before) (room st.before.before.before.before.before.before.before.before.before.before.before.before.before.before.before.before.before.before) _ _ (front-put c.before.before.before.before.before))
 
 shape_of-out : tie.Need-shape_of-out
 shape_of-out c = search rules
 
 returns : tie.Need-returns
-returns c = search rules
-
-put-line1-requires-3 : tie.Need-put-line1-requires-3
-put-line1-requires-3 c κs =
-    let st = c in
-    rw (sinks-back st) (omega (arith, st.requires.0.2), fits_next _ _ (slack_line st ++ wire_line st) (sinksLine st) (room st) _ _ (front-put c.before.before.before.before))
-
-same_length : tie.Need-same-length
-same_length c = search rules
-
-returns : tie.Need-returns
 returns c =
     let st = c in
-    let last = rw (sinks-back st) at c.put_line1.ensures in
-    puts_both _ _ (slack_line st ++ wire_line st) (sinksLine st) (room st) _ _ (front-put c.before.before.before.before.before.before.before) _ _ last
+    let last = rw (sinks-back st.before.before.before.before.before.before.before.before.before.before.before.before.before.before.before.before.before.before.before.before.before) at c.put_line1.ensures in
+    puts_both _ _ (slack_line st.before.before.before.before.before.before.before.before.before.before.before.before.before.before.before.before.before.before.before.before.before ++ wire_line st.before.before.before.before.before.before.before.before.before.before.before.before.before.before.before.before.before.before.before.before.before) (sinksLine st.before.before.before.before.before.before.before.before.before.before.before.before.before.before.before.before.before.before.before.before.before) (room st.before.before.before.before.before.before.before.before.before.before.before.before.before.before.before.before.before.before.before.before.before) _ _ (front-put c.before.before.before.before.before.before.before.before) _ _ last
 
 pub put_head_spec : {M : Type 1} → statement M
 put_head_spec =
@@ -119,7 +110,4 @@ put_head_spec =
     overflow_cast-n
     put_line1-requires
     shape_of-out
-    returns
-    put-line1-requires-3
-    same_length
     returns)

@@ -35,28 +35,25 @@ bounds-parents-k : tie.Need-bounds-parents-k
 bounds-parents-k c = search rules
 
 overflow_cast-parents : tie.Need-overflow_cast-parents
-overflow_cast-parents c = search rules
+overflow_cast-parents c = record { sfits = omega (arith, small c.before.before.before.before.before.before) }
 
 put_line2-requires : tie.Need-put_line2-requires
-put_line2-requires c = record { sfits = omega (arith, small c.before.before.before.before.before.before) }
-
-shape_of-out : tie.Need-shape_of-out
-shape_of-out c κs =
+put_line2-requires c κs =
     let st = c in
     let a = st.args in (
       natural_writable a.k (omega (arith, st.requires.0.0.few)),
-      natural_writable (get_or a.parents.now a.k 0) (omega (arith, small st.before.before.before.before.before.before.before.before.before)),
-      subst (λ (s : List ℕ). a.at + length s ≤ length a.out.now) (sym (line st.before.before.before.before.before.before.before.before.before)) st.requires.1,
+      natural_writable (get_or a.parents.now a.k 0) (omega (arith, small st.before.before.before.before.before.before)),
+      subst (λ (s : List ℕ). a.at + length s ≤ length a.out.now) (sym (line st.before.before.before.before.before.before)) st.requires.1,
     )
 
-returns : tie.Need-returns
-returns c = search rules
+shape_of-out : tie.Need-shape_of-out
+shape_of-out c = search rules
 
 returns : tie.Need-returns
 returns c =
     let st = c in
     let a = st.args in
-    subst (λ (s : List ℕ). Puts a.out.now a.at s c.put_line2.result c.put_line2.new.out) (line st) c.put_line2.ensures
+    subst (λ (s : List ℕ). Puts a.out.now a.at s c.put_line2.result c.put_line2.new.out) (line st.before.before.before.before.before.before.before.before.before) c.put_line2.ensures
 
 pub put_leaf_spec : {M : Type 1} → statement M
 put_leaf_spec =
@@ -68,5 +65,4 @@ put_leaf_spec =
     overflow_cast-parents
     put_line2-requires
     shape_of-out
-    returns
     returns)

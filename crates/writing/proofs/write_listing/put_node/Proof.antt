@@ -45,10 +45,10 @@ bounds-parents-k : tie.Need-bounds-parents-k
 bounds-parents-k c = search rules
 
 overflow_cast-parents : tie.Need-overflow_cast-parents
-overflow_cast-parents c = search rules
+overflow_cast-parents c = record { sfits = omega (arith, small c.before.before.before.before.before.before) }
 
 offset_bounds-xs-k : tie.Need-offset_bounds-xs-k
-offset_bounds-xs-k c = record { sfits = omega (arith, small c.before.before.before.before.before.before) }
+offset_bounds-xs-k c = search rules
 
 bounds-xs-k : tie.Need-bounds-xs-k
 bounds-xs-k c = search rules
@@ -60,28 +60,25 @@ bounds-ys-k : tie.Need-bounds-ys-k
 bounds-ys-k c = search rules
 
 put_line4-requires : tie.Need-put_line4-requires
-put_line4-requires c = search rules
-
-shape_of-out : tie.Need-shape_of-out
-shape_of-out c κs =
+put_line4-requires c κs =
     let st = c in
     let a = st.args in
     let w = st.requires.1.0.2 in (
       natural_writable a.k (omega (arith, st.requires.0.0.few)),
-      natural_writable (get_or a.parents.now a.k 0) (omega (arith, small st.before.before.before.before.before.before.before.before.before.before.before)),
+      natural_writable (get_or a.parents.now a.k 0) (omega (arith, small st.before.before.before.before.before.before.before.before)),
       rw (within_back position_limit _ (omega arith) w.0) (within_writable position_limit _ (omega arith) w.0),
       rw (within_back position_limit _ (omega arith) w.1) (within_writable position_limit _ (omega arith) w.1),
-      subst (λ (s : List ℕ). a.at + length s ≤ length a.out.now) (sym (line st.before.before.before.before.before.before.before.before.before.before.before)) st.requires.1.1,
+      subst (λ (s : List ℕ). a.at + length s ≤ length a.out.now) (sym (line st.before.before.before.before.before.before.before.before)) st.requires.1.1,
     )
 
-returns : tie.Need-returns
-returns c = search rules
+shape_of-out : tie.Need-shape_of-out
+shape_of-out c = search rules
 
 returns : tie.Need-returns
 returns c =
     let st = c in
     let a = st.args in
-    subst (λ (s : List ℕ). Puts a.out.now a.at s c.put_line4.result c.put_line4.new.out) (line st) c.put_line4.ensures
+    subst (λ (s : List ℕ). Puts a.out.now a.at s c.put_line4.result c.put_line4.new.out) (line st.before.before.before.before.before.before.before.before.before.before.before) c.put_line4.ensures
 
 pub put_node_spec : {M : Type 1} → statement M
 put_node_spec =
@@ -97,5 +94,4 @@ put_node_spec =
     bounds-ys-k
     put_line4-requires
     shape_of-out
-    returns
     returns)

@@ -42,7 +42,7 @@ room2 c = fits_first c.args.out.now 0 (two c) (wire_line c.args.header) (room3 c
 
 -- where the walk started, seen from after each line
 abbrev start1 : tie.After-put_line2-first → tie.Start
-start1 c = c.before.before.before.before.before.before.before.before.before
+start1 c = c.before.before.before.before.before.before.before.before.before.before.before.before
 
 abbrev start2 : tie.After-put_line1-second → tie.Start
 start2 c = start1 c.before.before.before.before.before.before.before.before
@@ -107,68 +107,53 @@ overflow_cast-vertical : tie.Need-overflow_cast-vertical
 overflow_cast-vertical c = search rules
 
 put_line2-first-requires : tie.Need-put_line2-first-requires
-put_line2-first-requires c = search rules
-
-attoseconds-requires : tie.Need-attoseconds-requires
-attoseconds-requires c κs =
+put_line2-first-requires c κs =
     let st = c in
     let a = st.args in
     let w = root_writable a.header a.root a.n st.requires.0 in
-    (w.0, w.1, subst (λ (s : List ℕ). 0 + length s ≤ length a.out.now) (sym (root_is st.before.before.before.before.before.before.before.before.before.before.before.before.before.before.before.before.before.before)) (fits_first a.out.now 0 (root_line a.root) (branch_line a.header) (room2 st.before.before.before.before.before.before.before.before.before.before.before.before.before.before.before.before.before.before)))
+    (w.0, w.1, subst (λ (s : List ℕ). 0 + length s ≤ length a.out.now) (sym (root_is st.before.before.before.before.before.before.before.before.before.before.before)) (fits_first a.out.now 0 (root_line a.root) (branch_line a.header) (room2 st.before.before.before.before.before.before.before.before.before.before.before)))
+
+attoseconds-requires : tie.Need-attoseconds-requires
+attoseconds-requires c κs = search rules
 
 put_line1-second-requires : tie.Need-put_line1-second-requires
-put_line1-second-requires c = search rules
+put_line1-second-requires c κs =
+    let st = start1 c.before.before.before.before.before.before.before in
+    let a = st.args in
+    (branch_writable a.header a.root a.n st.requires.0 _ c.attoseconds.ensures, next_fits _ _ (root_line a.root) (branch_line a.header) (room2 st) _ _ (put1 c.before.before.before.before.before.before.before) _ (branch_is c))
 
 put_line2-third-requires : tie.Need-put_line2-third-requires
-put_line2-third-requires c κs = search rules
-
-attoseconds-requires-2 : tie.Need-attoseconds-requires-2
-attoseconds-requires-2 c κs =
-    let st = start1 c.before.before.before.before.before.before.before.before.before.before.before.before.before.before.before.before.before.before.before.before in
-    let a = st.args in
-    (branch_writable a.header a.root a.n st.requires.0 _ c.attoseconds.ensures, next_fits _ _ (root_line a.root) (branch_line a.header) (room2 st) _ _ (put1 c.before.before.before.before.before.before.before.before.before.before.before.before.before.before.before.before.before.before.before.before) _ (branch_is c.before.before.before.before.before.before.before.before.before.before.before.before.before))
-
-put_line1-fourth-requires : tie.Need-put_line1-fourth-requires
-put_line1-fourth-requires c = search rules
-
-overflow_cast-n : tie.Need-overflow_cast-n
-overflow_cast-n c κs =
-    let st = start2 c.before.before.before.before.before.before.before.before.before.before.before.before.before.before.before.before.before.before.before in
+put_line2-third-requires c κs =
+    let st = start2 c.before.before.before.before.before in
     let a = st.args in
     let w = wire_writable a.header a.root a.n st.requires.0 _ _ c.attoseconds_per_nanometre-horizontal.ensures c.attoseconds_per_nanometre-vertical.ensures in
-    (w.0, w.1, next_fits _ _ (two st) (wire_line a.header) (room3 st) _ _ (put2 c.before.before.before.before.before.before.before.before.before.before.before.before.before.before.before.before.before.before.before) _ (wire_is c.before.before.before.before.before.before.before.before.before.before.before.before.before.before.before.before.before.before.before))
+    (w.0, w.1, next_fits _ _ (two st) (wire_line a.header) (room3 st) _ _ (put2 c.before.before.before.before.before) _ (wire_is c.before.before.before.before.before))
+
+attoseconds-requires-2 : tie.Need-attoseconds-requires-2
+attoseconds-requires-2 c κs = search rules
+
+put_line1-fourth-requires : tie.Need-put_line1-fourth-requires
+put_line1-fourth-requires c κs =
+    let st = start3 c.before.before.before.before.before.before.before in
+    let a = st.args in
+    (need_writable a.header a.root a.n st.requires.0 _ c.attoseconds-2.ensures, next_fits _ _ (three st) (need_line a.header) (room4 st) _ _ (put3 c.before.before.before.before.before.before.before) _ (need-is c))
+
+overflow_cast-n : tie.Need-overflow_cast-n
+overflow_cast-n c = record { sfits = omega (arith, (start4 c.before.before.before.before.before).requires.0.few) }
 
 put_line1-requires : tie.Need-put_line1-requires
-put_line1-requires c = search rules
+put_line1-requires c κs =
+    let st = start4 c.before.before.before.before.before in
+    let a = st.args in
+    (count_writable a.header a.root a.n st.requires.0, next_fits _ _ (four st) (count_line a.n) (room5 st) _ _ (put4 c.before.before.before.before.before) _ (count_is st))
 
 shape_of-out : tie.Need-shape_of-out
-shape_of-out c κs = search rules
-
-returns : tie.Need-returns
-returns c κs =
-    let st = start3 c.before.before.before.before.before.before.before.before.before.before.before.before.before.before.before.before in
-    let a = st.args in
-    (need_writable a.header a.root a.n st.requires.0 _ c.attoseconds-2.ensures, next_fits _ _ (three st) (need_line a.header) (room4 st) _ _ (put3 c.before.before.before.before.before.before.before.before.before.before.before.before.before.before.before.before) _ (need-is c.before.before.before.before.before.before.before.before.before))
-
-slice-aggregate-put-line1-3 : tie.Need-slice-aggregate-put-line1-3
-slice-aggregate-put-line1-3 c = search rules
-
-cast-put-line1 : tie.Need-overflow-cast-put-line1
-cast-put-line1 c = record { sfits = omega (arith, (start4 c.before.before.before.before).requires.0.few) }
-
-put-line1-requires-3 : tie.Need-put-line1-requires-3
-put-line1-requires-3 c κs =
-    let st = start4 c.before.before.before.before in
-    let a = st.args in
-    (count_writable a.header a.root a.n st.requires.0, next_fits _ _ (four st) (count_line a.n) (room5 st) _ _ (put4 c.before.before.before.before) _ (count_is st))
-
-same_length : tie.Need-same-length
-same_length c = search rules
+shape_of-out c = search rules
 
 returns : tie.Need-returns
 returns c =
-    let st = start4 c.before.before.before.before.before.before.before in
-    next_put _ _ (four st) (count_line st.args.n) (room5 st) _ _ (put4 c.before.before.before.before.before.before.before) _ (count_is st) _ _ c.put_line1.ensures
+    let st = start4 c.before.before.before.before.before.before.before.before in
+    next_put _ _ (four st) (count_line st.args.n) (room5 st) _ _ (put4 c.before.before.before.before.before.before.before.before) _ (count_is st) _ _ c.put_line1.ensures
 
 pub put_head_spec : {M : Type 1} → statement M
 put_head_spec =
@@ -187,9 +172,4 @@ put_head_spec =
     overflow_cast-n
     put_line1-requires
     shape_of-out
-    returns
-    slice-aggregate-put-line1-3
-    cast-put-line1
-    put-line1-requires-3
-    same_length
     returns)

@@ -50,23 +50,20 @@ bounds-weights-k : tie.Need-bounds-weights-k
 bounds-weights-k c = search rules
 
 put_line4-requires : tie.Need-put_line4-requires
-put_line4-requires c = search rules
-
-shape_of-out : tie.Need-shape_of-out
-shape_of-out c κs =
+put_line4-requires c κs =
     let st = c in
     let a = st.args in
     let w = sink_writable a.xs.now a.ys.now a.required.now a.weights.now a.k st.requires.0 in
-    (w.0, w.1, w.2, w.3, subst (λ (s : List ℕ). a.at + length s ≤ length a.out.now) (sym (line st.before.before.before.before.before.before.before.before.before.before.before)) st.requires.1)
+    (w.0, w.1, w.2, w.3, subst (λ (s : List ℕ). a.at + length s ≤ length a.out.now) (sym (line st.before.before.before.before.before.before.before.before)) st.requires.1)
 
-returns : tie.Need-returns
-returns c = search rules
+shape_of-out : tie.Need-shape_of-out
+shape_of-out c = search rules
 
 returns : tie.Need-returns
 returns c =
     let st = c in
     let a = st.args in
-    subst (λ (s : List ℕ). Puts a.out.now a.at s c.put_line4.result c.put_line4.new.out) (line st) c.put_line4.ensures
+    subst (λ (s : List ℕ). Puts a.out.now a.at s c.put_line4.result c.put_line4.new.out) (line st.before.before.before.before.before.before.before.before.before.before.before) c.put_line4.ensures
 
 pub put_sink_spec : {M : Type 1} → statement M
 put_sink_spec =
@@ -82,5 +79,4 @@ put_sink_spec =
     bounds-weights-k
     put_line4-requires
     shape_of-out
-    returns
     returns)
