@@ -1,3 +1,2 @@
 // Theorems alone: what becomes of the first plan when the net changes.
 #![tactic(auto)]
-

@@ -3,7 +3,7 @@ use Prim.Native.Nat.{ℕ, ◌*◌, ◌-◌, ◌≤◌}
 use mathlib.Core.Path.{◌≡◌, sym, ap, ◌∙◌, subst}
 use mathlib.Core.List.{List}
 use lib.ListN.{length-map}
-use lib.IntN.{ℤ, pos, ◌*ℤ◌}
+use lib.IntN.{pos, ◌*ℤ◌}
 use Rattle.tree.specs.Net.{Net, size, own_slacks}
 use Rattle.tree.specs.Tree.{Tree, Legal, LegalTree}
 use Rattle.tree.specs.Kraft.{kraft_maximum}

@@ -15,7 +15,7 @@ use Rattle.quantities.specs.Distance.{distance}
 use Rattle.quantities.specs.Median.{median_point}
 use Rattle.quantities.proofs.Laws.Rising.{Rising, rising_lt}
 use Rattle.tree.specs.Net.{Net, size, sink_numbers, branch_numbers, sink_at, required, own_slack}
-use Rattle.tree.specs.Tree.{Tree, place}
+use Rattle.tree.specs.Tree.{place}
 use Rattle.tree.specs.Measures.{worst_over, worst_slack}
 use Rattle.tree.specs.Planning.{earlier, sort, order, unsettled, split, lower_ends, worst_after, TieRule, far, nearer, tie_rule, ranks, best, best_of, chosen, insert_all, parents_after, plan_parents}
 use Rattle.tree.specs.Settling.{children, settled, settled_tree, plan_by, plan}

@@ -4,7 +4,7 @@ use mathlib.Core.Path.{refl, sym, ap, ◌∙◌}
 use mathlib.Core.List.{List}
 use native.Mathlib.Nat.{mul-pos}
 use native.Mathlib.Omega.{arith}
-use lib.IntN.{ℤ, pos, ◌*ℤ◌}
+use lib.IntN.{pos, ◌*ℤ◌}
 use Rattle.tree.specs.Net.{Net, size}
 use Rattle.tree.proofs.Laws.Planning.Theorem1.{theorem_1}
 use Rattle.formats.specs.NetText.{InFormat}

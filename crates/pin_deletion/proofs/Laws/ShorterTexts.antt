@@ -6,7 +6,7 @@ use lib.IntN.{ℤ}
 use Rattle.quantities.specs.declared.length.Length.{Length}
 use Rattle.quantities.specs.declared.time.Time.{Time}
 use Rattle.tree.specs.declared.header.Header.{Header}
-use Rattle.tree.specs.Net.{Net, size}
+use Rattle.tree.specs.Net.{Net}
 use Rattle.tree.specs.Tree.{Tree}
 use Rattle.tree.specs.Measures.{worst_slack, wire_length}
 use Rattle.tree.specs.Inner.Arrays.{net_of, tree_of, weights_of}

@@ -10,7 +10,6 @@ use lib.Ieee.{Float, nan, inf, fin, binary64, round, to_bits, is_nan}
 use Rattle.quantities.specs.MinMax.{min_ℤ}
 use Rattle.quantities.specs.Inner.Linear.{whole}
 use Rattle.quantities.proofs.Laws.MinMax.{min_is}
-use Rattle.formats.specs.Refusals.{told}
 use Rattle.formats.specs.Outcome.{Outcome, value, refused}
 use Rattle.formats.specs.declared.refusal.Refusal.{Refusal}
 use Rattle.formats.specs.declared.refusal.Refusal.TheVariants.{NotScored}

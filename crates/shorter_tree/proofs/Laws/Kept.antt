@@ -210,7 +210,7 @@ module _ (N : Net) (T : Tree) (s : ℕ) (legal : LegalTree N T) (n2 : 2 ≤ size
       let W : Least (range 1 n) (slack N T) (worst_slack N T) = worst_is_least N T (omega arith) in
       let W' : Least (range 1 m) (slack N' T') (worst_slack N' T') = worst_is_least N' T' (omega (arith, less)) in
       let w : ℕ = W'.at in
-      let i : (1 ≤ w) × (w < 1 + m) = range_in 1 m w W'.in_List in
+      let i : (1 ≤ w) × (w < 1 + m) = range_in 1 m w W'.in_list in
       let t : ℕ = old s b w in
       let o : (1 ≤ t) × (t ≤ n) = old_sink n P L n2 s s1 sn m less w i.0 (omega arith) in
       let x : slack N T t ≤ℤ slack N' T' (renumber s b t) = slack_kept t o.0 o.1 (old_stays s b sb w).0 in

@@ -1,22 +1,12 @@
 -- The listing is accepted or refused over the net in the arrays; then the sink goes. No loop.
 use mathlib.Core.Path.{sym, ◌∙◌}
-use mathlib.Core.List.{List}
-use Prim.Native.Nat.{ℕ}
 use native.Mathlib.Omega.{arith}
-use Rattle.tree.specs.Net.{Net}
 use Rattle.tree.specs.Inner.Arrays.{net_of, weights_of}
 use Rattle.pin_deletion.proofs.Laws.Deletions.{listing_turned, refused_answers, same_answers}
 use Rattle.pin_deletion.proofs.Laws.AcceptedTree.{accepted_holds, accepted_slack, accepted_deleted}
 use borrow.Author.Rules.{rules}
 use Rattle.pin_deletion.proofs.delete_pin.delete_listed.Statement.{statement}
 use Rattle.pin_deletion.proofs.delete_pin.delete_listed.Tie as tie
-
--- the net before the listing is read, and its weights
-abbrev net : tie.Start → Net
-net s = let a = s.args in net_of a.header a.n a.xs.now a.ys.now a.required.now
-
-abbrev weights : tie.Start → List ℕ
-weights s = weights_of s.args.n s.args.weights.now
 
 accept-requires : tie.Need-accept-requires
 accept-requires c κs = search rules
@@ -53,7 +43,7 @@ returns-in-NotAccepted c =
     let s = c in
     let a = s.args in
     refused_answers a.net_out.now a.listing_out.now _ _
-    (listing_turned (net s.before.before.before.before.before.before.before.before.before.before.before.before.before.before.before.before.before.before.before.before.before.before.before.before.before.before.before.before.before) (weights s.before.before.before.before.before.before.before.before.before.before.before.before.before.before.before.before.before.before.before.before.before.before.before.before.before.before.before.before.before) a.listing.now a.s _ _ c.in-NotAccepted.refusal (sym (rw c.in-NotAccepted.is at c.accept.ensures.0)))
+    (listing_turned (net_of a.header a.n a.xs.now a.ys.now a.required.now) (weights_of a.n a.weights.now) a.listing.now a.s _ _ c.in-NotAccepted.refusal (sym (rw c.in-NotAccepted.is at c.accept.ensures.0)))
 
 enum_told-1 : tie.Need-enum_told-1
 enum_told-1 c = search rules
@@ -63,14 +53,12 @@ delete_sink-requires c κs =
     let s = c in
     let a = s.args in
     let r = c.accept in
-    let t = c.enum_told-1.given in
-    let l = r.new.xs in
-    let k = r.auto.xs in
-    let accepted = sym (rw t.1 at r.ensures.0) in (
-      accepted_holds a.header a.n a.xs.now a.ys.now a.required.now l.0 l.1.0 l.1.1.1.0 a.listing.now t.0.0 t.0.1.0 r.ensures.1 accepted a.weights.now
-          s.requires.0.0 s.requires.0.1 (omega (arith, k.1.1.1.0, s.requires.0.2)) (omega (arith, k.0, s.requires.0.2)) (omega (arith, k.1.0, s.requires.0.2)),
+    let t = c.in_default in
+    let accepted = sym (rw t.is at r.ensures.0) in (
+      accepted_holds a.header a.n a.xs.now a.ys.now a.required.now r.new.xs r.new.ys r.new.parents a.listing.now t.field-0 t.field-1 r.ensures.1 accepted a.weights.now
+          s.requires.0.0 s.requires.0.1 (omega (arith, r.auto.parents, s.requires.0.2)) (omega (arith, r.auto.xs, s.requires.0.2)) (omega (arith, r.auto.ys, s.requires.0.2)),
       (
-        accepted_slack a.header a.n a.xs.now a.ys.now a.required.now l.0 l.1.0 l.1.1.1.0 a.listing.now t.0.0 t.0.1.0 r.ensures.1 accepted,
+        accepted_slack a.header a.n a.xs.now a.ys.now a.required.now r.new.xs r.new.ys r.new.parents a.listing.now t.field-0 t.field-1 r.ensures.1 accepted,
         (omega (arith, r.auto, s.requires.1), omega (arith, r.auto, s.requires.1), omega (arith, r.auto, s.requires.1), omega (arith, r.auto, s.requires.1)),
       ),
     )
@@ -113,10 +101,9 @@ returns c =
     let s = c in
     let a = s.args in
     let r = c.accept in
-    let t = c.enum_told-1.given in
-    let l = r.new.xs in
+    let t = c.in_default in
     same_answers a.net_out.now a.listing_out.now _ _ _ _ _
-    (accepted_deleted a.header a.n a.xs.now a.ys.now a.required.now l.0 l.1.0 l.1.1.1.0 a.listing.now t.0.0 t.0.1.0 r.ensures.1 (sym (rw t.1 at r.ensures.0)) (weights s.before.before.before.before.before.before.before.before.before.before.before.before.before.before.before.before.before.before.before.before.before.before.before.before.before.before.before.before.before.before.before.before.before.before.before.before.before.before.before.before.before.before.before.before.before.before.before.before.before.before.before.before.before.before.before.before.before) a.s _ _)
+    (accepted_deleted a.header a.n a.xs.now a.ys.now a.required.now r.new.xs r.new.ys r.new.parents a.listing.now t.field-0 t.field-1 r.ensures.1 (sym (rw t.is at r.ensures.0)) (weights_of a.n a.weights.now) a.s _ _)
     c.delete_sink.ensures
 
 pub delete_listed_spec : {M : Type 1} → statement M

@@ -40,14 +40,12 @@ delete_listed-requires c κs =
     let s = c in
     let a = s.args in
     let r = c.read_rest in
-    let l = r.new.xs in
-    let k = r.auto.xs in
     let p = s.requires.1 in
     let read = s.requires.0.0 ∙ (rw c.in_default.is at (r.ensures a.header)) in (
       (
-        read_net_holds a.header a.n l.0 l.1.0 l.1.1.0 a.net.now (net_of_lem a.net.now _ read) (omega (arith, k.0, p.0)) (omega (arith, k.1.0, p.0)) (omega (arith, k.1.1.0, p.0)),
-        read_weights_hold a.header a.n l.0 l.1.0 l.1.1.0 a.net.now l.1.1.1.0 read (omega (arith, k.1.1.1.0, p.0)),
-        (p.1.0, omega (arith, k.0, p.1), omega (arith, k.1.0, p.1)),
+        read_net_holds a.header a.n r.new.xs r.new.ys r.new.required a.net.now (net_of_lem a.net.now _ read) (omega (arith, r.auto.xs, p.0)) (omega (arith, r.auto.ys, p.0)) (omega (arith, r.auto.required, p.0)),
+        read_weights_hold a.header a.n r.new.xs r.new.ys r.new.required a.net.now r.new.weights read (omega (arith, r.auto.weights, p.0)),
+        (p.1.0, omega (arith, r.auto.xs, p.1), omega (arith, r.auto.ys, p.1)),
       ),
       p.2,
     )

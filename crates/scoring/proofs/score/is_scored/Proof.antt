@@ -1,6 +1,8 @@
 -- The four tests are those of the definition, in its order. No loop.
 use mathlib.Core.Path.{◌≡◌, sym, ap, ◌∙◌}
-use mathlib.Core.Bool.{false, not}
+use mathlib.Core.Bool.{Bool, not}
+use Prim.Native.Nat.{ℕ}
+use lib.IntN.{ℤ}
 use lib.Signed.{lt_z}
 use mir.Facts.{to_z-of_z}
 use Rattle.scoring.specs.Limits.{parts, cap_limit}
@@ -14,41 +16,35 @@ is_from_zero-requires : tie.Need-is_from_zero-requires
 is_from_zero-requires c κs = search rules
 
 -- what each test tells
-alpha-tested : (c : tie.After-is_from_zero) → c.is_from_zero.result ≡ is_from_zero parts c.args.alpha_1024ths
-alpha-tested c = c.is_from_zero.ensures ∙ ap (is_from_zero parts) (to_z-of_z c.ranges.alpha_1024ths)
-
-alpha_passed : (c : tie.Else-not-is_from_zero) → not (is_from_zero parts c.args.alpha_1024ths) ≡ false
-alpha_passed c = ap not (sym (alpha-tested c.before)) ∙ c.if-not-is_from_zero.false
+tested : (k : ℕ) {z y : ℤ} {r : Bool} → r ≡ is_from_zero k z → z ≡ y → r ≡ is_from_zero k y
+tested k e f = e ∙ ap (is_from_zero k) f
 
 returns-then-not-is_from_zero : tie.Need-returns-then-not-is_from_zero
 returns-then-not-is_from_zero c =
     let a = c.args in
-    no_alpha a.alpha_1024ths a.beta_1024ths a.cap a.capped.0 (ap not (sym (alpha-tested c.before)) ∙ c.if-not-is_from_zero.true)
+    let alpha = tested parts c.is_from_zero.ensures (to_z-of_z c.ranges.alpha_1024ths) in
+    no_alpha a.alpha_1024ths a.beta_1024ths a.cap a.capped.0 (ap not (sym alpha ∙ c.if-not-is_from_zero.true))
 
 is_from_zero-requires-2 : tie.Need-is_from_zero-requires-2
 is_from_zero-requires-2 c κs = search rules
 
-beta-tested : (c : tie.After-is_from_zero-2) → c.is_from_zero-2.result ≡ is_from_zero parts c.args.beta_1024ths
-beta-tested c = c.is_from_zero-2.ensures ∙ ap (is_from_zero parts) (to_z-of_z c.ranges.beta_1024ths)
-
-beta_passed : (c : tie.Else-not-is_from_zero-2) → not (is_from_zero parts c.args.beta_1024ths) ≡ false
-beta_passed c = ap not (sym (beta-tested c.before)) ∙ c.if-not-is_from_zero-2.false
-
 returns-then-not-is_from_zero-2 : tie.Need-returns-then-not-is_from_zero-2
 returns-then-not-is_from_zero-2 c =
     let a = c.args in
-    no_beta a.alpha_1024ths a.beta_1024ths a.cap a.capped.0 (alpha_passed c.before.before) (ap not (sym (beta-tested c.before)) ∙ c.if-not-is_from_zero-2.true)
+    let alpha = tested parts c.is_from_zero.ensures (to_z-of_z c.ranges.alpha_1024ths) in
+    let beta = tested parts c.is_from_zero-2.ensures (to_z-of_z c.ranges.beta_1024ths) in
+    no_beta a.alpha_1024ths a.beta_1024ths a.cap a.capped.0 (ap not (sym alpha ∙ c.if-not-is_from_zero.false)) (ap not (sym beta ∙ c.if-not-is_from_zero-2.true))
 
 is_from_zero-requires-3 : tie.Need-is_from_zero-requires-3
 is_from_zero-requires-3 c κs = search rules
 
-cap-tested : (c : tie.After-is_from_zero-3) → c.is_from_zero-3.result ≡ is_from_zero cap_limit c.args.cap
-cap-tested c = c.is_from_zero-3.ensures ∙ ap (is_from_zero cap_limit) (to_z-of_z c.ranges.cap)
-
 returns-then-not-is_from_zero-3 : tie.Need-returns-then-not-is_from_zero-3
 returns-then-not-is_from_zero-3 c =
     let a = c.args in
-    no_cap a.alpha_1024ths a.beta_1024ths a.cap a.capped.0 (alpha_passed c.before.before.before.before) (beta_passed c.before.before) (ap not (sym (cap-tested c.before)) ∙ c.if-not-is_from_zero-3.true)
+    let alpha = tested parts c.is_from_zero.ensures (to_z-of_z c.ranges.alpha_1024ths) in
+    let beta = tested parts c.is_from_zero-2.ensures (to_z-of_z c.ranges.beta_1024ths) in
+    let cap = tested cap_limit c.is_from_zero-3.ensures (to_z-of_z c.ranges.cap) in
+    no_cap a.alpha_1024ths a.beta_1024ths a.cap a.capped.0 (ap not (sym alpha ∙ c.if-not-is_from_zero.false)) (ap not (sym beta ∙ c.if-not-is_from_zero-2.false)) (ap not (sym cap ∙ c.if-not-is_from_zero-3.true))
 
 overflow_cast-of : tie.Need-overflow_cast-of
 overflow_cast-of c = search rules
@@ -65,9 +61,11 @@ is_less-requires c κs = search rules
 returns : tie.Need-returns
 returns c =
     let a = c.args in
+    let alpha = tested parts c.is_from_zero.ensures (to_z-of_z c.ranges.alpha_1024ths) in
+    let beta = tested parts c.is_from_zero-2.ensures (to_z-of_z c.ranges.beta_1024ths) in
+    let cap = tested cap_limit c.is_from_zero-3.ensures (to_z-of_z c.ranges.cap) in
     ap not (c.is_less.ensures ∙ ap (lt_z a.capped.0) c.of.ensures)
-    ∙ by_slack a.alpha_1024ths a.beta_1024ths a.cap a.capped.0 (alpha_passed c.before.before.before.before.before.before) (beta_passed c.before.before.before.before)
-    (ap not (sym (cap-tested c.before.before.before)) ∙ c.if-not-is_from_zero-3.false)
+    ∙ by_slack a.alpha_1024ths a.beta_1024ths a.cap a.capped.0 (ap not (sym alpha ∙ c.if-not-is_from_zero.false)) (ap not (sym beta ∙ c.if-not-is_from_zero-2.false)) (ap not (sym cap ∙ c.if-not-is_from_zero-3.false))
 
 pub is_scored_spec : {M : Type 1} → statement M
 is_scored_spec =
