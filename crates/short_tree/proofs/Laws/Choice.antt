@@ -4,14 +4,14 @@ use mathlib.Core.Path.{◌≡◌, ap}
 use mathlib.Core.Logic.{◌≢◌, ◌⊎◌, inl, inr}
 use native.Mathlib.Omega.{arith}
 use native.Mathlib.Nat.{eq-or-lt_of_le}
-use lib.ListN.{length, get_or, replicate, length-replicate}
+use lib.ListN.{get_or, replicate, length-replicate}
 use Rattle.quantities.specs.Distance.{distance}
 use Rattle.tree.specs.Lists.{count, down, range}
 use Rattle.tree.specs.Net.{Net, size, sink_numbers, sink_at}
 use Rattle.tree.proofs.Laws.Trees.LegalTrees.{somewhere, hangs}
 use Rattle.tree.proofs.Laws.Planning.BeforeSettling.{count-append}
-use Rattle.short_tree.specs.Inner.Searching.{Ahead, First}
-use Rattle.short_tree.specs.ShortTree.{Growing, added, outside, waiting, edges, edge_for, next_sink, inserted, nearest, start, after}
+use Rattle.short_tree.specs.Inner.Searching.{Ahead}
+use Rattle.short_tree.specs.ShortTree.{Growing, added, waiting, edges, edge_for, next_sink, inserted, nearest, after}
 use Rattle.short_tree.specs.Theorem2.{NearestSink, NotAfter, FirstChoice}
 use Rattle.short_tree.proofs.Laws.Choosing.{FirstOf, first_of_lem}
 use Rattle.short_tree.proofs.Laws.Waiting.{outside_free, outside_in, sink_once, sink_range, some_waits}

@@ -1,6 +1,6 @@
 -- The figures of the short tree are in the listing's ranges: no way from the root has more than n edges. Assumes nothing.
 use Prim.Native.Nat.{ℕ, zero, suc, ◌+◌, ◌-◌, ◌*◌, ◌≤◌, ◌<◌, zero-le}
-use mathlib.Core.Path.{◌≡◌, refl, sym, ap, ◌∙◌, subst}
+use mathlib.Core.Path.{◌≡◌, sym, ap, ◌∙◌, subst}
 use mathlib.Core.Bool.{Bool, true, false}
 use mathlib.Core.Logic.{◌≢◌, ◌⊎◌, inl, inr}
 use mathlib.Core.List.{List, ◌∷◌}
@@ -8,14 +8,13 @@ use native.Mathlib.Nat.{le_refl, mul-le-mul}
 use native.Mathlib.Omega.{arith}
 use lib.Dec.{ltb}
 use lib.ListN.{length}
-use lib.IntN.{ℤ, pos, ◌-ℤ◌}
-use Rattle.quantities.specs.declared.point.Point.{Point}
+use lib.IntN.{pos, ◌-ℤ◌}
 use Rattle.quantities.specs.Inner.Linear.{whole, -is}
 use Rattle.quantities.specs.Ranges.{Within, PointWithin}
-use Rattle.tree.specs.Lists.{sum_over, delta, count, down, range}
+use Rattle.tree.specs.Lists.{sum_over, count, down, range}
 use Rattle.tree.specs.Net.{Net, size, required}
 use Rattle.tree.specs.Tree.{Tree, parent, place}
-use Rattle.tree.specs.Measures.{path_up, path, edge_delay, path_delay, one_if, depth, slack, worst_slack, wire_length}
+use Rattle.tree.specs.Measures.{path_up, edge_delay, path_delay, one_if, depth, slack, worst_slack, wire_length}
 use Rattle.tree.specs.Limits.{position_limit, branch_limit, wire_factor_limit, sink_limit, required_limit, slack_limit, wire_limit, InRange}
 use Rattle.tree.proofs.Laws.Lists.Sums.{equal?, delta_ne}
 use Rattle.tree.proofs.Laws.Trees.Walks.{hops, hops_stable, hops_le}

@@ -3,7 +3,7 @@ use Prim.Native.Nat.{ℕ, zero, suc, ◌≤◌, ◌<◌}
 use mathlib.Core.Path.{◌≡◌, sym, ap, ◌∙◌, subst}
 use native.Mathlib.Omega.{arith}
 use lib.ListN.{length}
-use Rattle.tree.specs.SpanningTrees.{Link, link_at, Linked, here, from_one, from_other, Among, SpanningTree, terminals}
+use Rattle.tree.specs.SpanningTrees.{link_at, Linked, here, from_one, from_other, Among, SpanningTree, terminals}
 use Rattle.tree.proofs.Laws.Lists.Tables.{table_length, table_at, range_length}
 use Rattle.tree.proofs.Laws.Trees.Defects.{range_in, in_range}
 use Rattle.short_tree.specs.Theorem2.{star}

@@ -9,9 +9,9 @@ use lib.ListN.{length, get_or}
 use Rattle.quantities.specs.declared.point.Point.{Point}
 use Rattle.quantities.specs.Box.{InBox}
 use Rattle.quantities.proofs.Laws.Median.{median_in_box}
-use Rattle.tree.specs.Lists.{sum_over, count, delta, down, range}
+use Rattle.tree.specs.Lists.{sum_over, count, delta, range}
 use Rattle.tree.specs.Net.{Net, size, sink_at}
-use Rattle.tree.specs.Tree.{Tree, parent_of, parent, Legal, LegalTree, place}
+use Rattle.tree.specs.Tree.{parent_of, parent, LegalTree, place}
 use Rattle.tree.specs.Measures.{wire_length, edge_length}
 use Rattle.tree.specs.SpanningTrees.{Link, link_at, Linked, here, from_one, from_other, Among, SpanningTree, link_wire, terminals}
 use Rattle.tree.proofs.Laws.Lists.Sums.{sum, equal?, delta_ne, regroup_by, sum_cong, sum_split}

@@ -1,6 +1,6 @@
 -- What a short tree is while it grows: a tree of its sinks and branch points, whose wire and the links that a spanning tree has left are together
 -- no longer than the spanning tree. Assumes nothing.
-use Prim.Native.Nat.{ℕ, zero, suc, ◌+◌, ◌-◌, ◌*◌, ◌≤◌, ◌<◌}
+use Prim.Native.Nat.{ℕ, zero, suc, ◌+◌, ◌*◌, ◌≤◌, ◌<◌}
 use mathlib.Core.Path.{◌≡◌, refl, sym, ap, ap₂, ◌∙◌}
 use mathlib.Core.Logic.{◌≢◌, ◌⊎◌, inl, inr}
 use mathlib.Core.List.{List, [], ◌∷◌, ◌++◌}
@@ -14,7 +14,6 @@ use Rattle.quantities.proofs.Laws.Median.{distance_through_median}
 use Rattle.tree.specs.Lists.{sum_over, delta, count, down}
 use Rattle.tree.specs.Net.{Net, size, sink_at}
 use Rattle.tree.specs.Tree.{Tree, parent_of, parent, place}
-use Rattle.tree.specs.Planning.{split}
 use Rattle.tree.specs.Measures.{edge_length}
 use Rattle.tree.proofs.Laws.Lists.Sums.{equal?, delta_eq, delta_ne, sum_over_change, sum_over_find, down_in, down_once, down_low}
 use Rattle.tree.proofs.Laws.Trees.Growing.{PartTree, Split, parent_inner, member, inner_ne, split_tree}

@@ -9,7 +9,7 @@ use lib.Dec.{T, eqb, eqb→eq}
 use lib.ListN.{length, get_or}
 use lib.IntN.{ℤ, pos}
 use Rattle.quantities.specs.Inner.Linear.{whole}
-use Rattle.tree.specs.Lists.{delta, count, range, down}
+use Rattle.tree.specs.Lists.{delta, count, range}
 use Rattle.tree.specs.Tree.{parent_of}
 use Rattle.tree.specs.Weights.{weight_of}
 use Rattle.tree.specs.Planning.{sort}

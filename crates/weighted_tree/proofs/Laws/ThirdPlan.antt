@@ -1,6 +1,6 @@
 -- What request 7 promises of the third plan: from the least sum of weight × delay, the ranges of its tree, and what holds of every plan that ignores need. Assumes nothing.
 use Prim.Native.Nat.{ℕ, zero, suc, ◌*◌}
-use mathlib.Core.Path.{◌≡◌, refl, ap, subst}
+use mathlib.Core.Path.{◌≡◌, refl, subst}
 use mathlib.Core.Bool.{true, false}
 use mathlib.Core.List.{List, map}
 use lib.ListN.{get_or}

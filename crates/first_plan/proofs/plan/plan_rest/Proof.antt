@@ -12,7 +12,7 @@ use Rattle.first_plan.proofs.plan.plan_rest.Statement.{statement}
 use Rattle.first_plan.proofs.plan.plan_rest.Tie as tie
 
 -- the arrays hold the net that was read
-read : (c : tie.In_default) → (let a = c.args in let l = c.read_rest.new in read_net a.net.now ≡ value (net_of a.header a.n l.1.1.1.1.0 l.1.1.1.1.1.0 l.1.1.1.1.1.1.0))
+read : (c : tie.In_default) → (let a = c.args in let l = c.read_rest.new in read_net a.net.now ≡ value (net_of a.header a.n l.xs l.ys l.required))
 read c = let s = c in net_of_lem _ _ (s.requires.0.0 ∙ (rw c.in_default.is at (c.read_rest.ensures s.args.header)))
 
 read_rest-requires : tie.Need-read_rest-requires
@@ -46,9 +46,9 @@ plan_net-requires c κs =
     let s = c in
     let a = s.args in
     let r = c.read_rest in
-    let l = r.new.xs in
+    let l = r.new in
     let p = s.requires.1 in
-    let h = read_net_holds a.header a.n l.0 l.1.0 l.1.1.0 _ (read c.before.before.before.before.before.before.before.before.before) (omega (arith, r.auto, p.0)) (omega (arith, r.auto, p.0)) (omega (arith, r.auto, p.0)) in
+    let h = read_net_holds a.header a.n l.xs l.ys l.required _ (read c.before.before.before.before.before.before.before.before.before) (omega (arith, r.auto, p.0)) (omega (arith, r.auto, p.0)) (omega (arith, r.auto, p.0)) in
     ((h, (p.1.0, omega (arith, r.auto, p.1), omega (arith, r.auto, p.1))), (omega (arith, r.auto, p.2), p.2.1, p.2.2, p.2.3, p.2.4))
 
 shape_of-xs : tie.Need-shape_of-xs

@@ -5,7 +5,6 @@ use mathlib.Core.Bool.{cond}
 use mathlib.Core.List.{List}
 use native.Mathlib.Nat.{le_refl}
 use native.Mathlib.Omega.{arith}
-use borrow.Author.Tests.{ltb-true, ltb-false}
 use lib.ListN.{length, get_or, set}
 use lib.IntN.{ℤ, pos, ◌-ℤ◌}
 use Rattle.quantities.specs.Ranges.{Within}
@@ -77,10 +76,10 @@ follow_parent-requires c κs =
     )
 
 overflow_sub-left : tie.Need-overflow_sub-left invariant-loop-at decreases-loop-at
-overflow_sub-left c = omega (arith, ltb-true 0 c.loop-at.left c.if-left-gt0.true)
+overflow_sub-left c = omega arith
 
 loop-at-smaller : tie.Need-loop-at-smaller invariant-loop-at decreases-loop-at
-loop-at-smaller c = omega (arith, ltb-true 0 c.loop-at.left c.if-left-gt0.true)
+loop-at-smaller c = omega arith
 
 loop-at-preserved : tie.Need-loop-at-preserved invariant-loop-at decreases-loop-at
 loop-at-preserved c =
@@ -120,7 +119,7 @@ returns-else-left-gt0 c =
     let l = c.loop-at in
     λ us j D ls ss C jm e P L.
     let w = l.invariant.2 us j D ls ss C jm e P L in
-    let z : w.0 ≡ 0 = omega (arith, w.2, ltb-false 0 l.left c.if-left-gt0.false) in
+    let z : w.0 ≡ 0 = omega (arith, w.2, c.if-left-gt0.false) in
     subst (λ (h : ℕ). Lowered us a.m D a.branch.0 ls ss h l.levels l.slacks) z w.4
 
 shape_of-levels-after-loop-at : tie.Need-shape_of-levels-after-loop-at invariant-loop-at decreases-loop-at

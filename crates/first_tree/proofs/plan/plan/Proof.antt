@@ -27,17 +27,17 @@ order_sinks-requires c κs =
     omega (arith, sizes, c.own_slacks.auto)
 
 -- the net, and that the arrays are ready for insertion
-abbrev net : tie.After-insert-all-arg8 → Net
+abbrev net : tie.After-insert_all-arg-5-1 → Net
 net c = let a = c.args in net_of a.h a.n a.xs.now a.ys.now a.required.now
 
-ready-now : (c : tie.After-insert-all-arg8) → Ready (net c) c.args.h.branch.0 c.args.n c.own_slacks.new.own
+ready-now : (c : tie.After-insert_all-arg-5-1) → Ready (net c) c.args.h.branch.0 c.args.n c.own_slacks.new.own
 ready-now c =
     let s = c in
     let a = s.args in
     let own = c.own_slacks in
     ready a.h a.n a.xs.now a.ys.now a.required.now s.requires.0 own.new.own (omega (arith, own.auto)) own.ensures
 
-lined-now : (c : tie.After-insert-all-arg8) → Lined (net c) c.args.n c.order_sinks.new.sinks
+lined-now : (c : tie.After-insert_all-arg-5-1) → Lined (net c) c.args.n c.order_sinks.new.sinks
 lined-now c =
     let s = c in
     let a = s.args in
@@ -47,7 +47,7 @@ lined-now c =
       sinks_are = order.ensures (net c) (size_is a.h a.n a.xs.now a.ys.now a.required.now) c.own_slacks.ensures;
     }
 
-placed-now : (c : tie.After-insert-all-arg8) → Placed (net c) c.args.n c.args.xs.now c.args.ys.now
+placed-now : (c : tie.After-insert_all-arg-5-1) → Placed (net c) c.args.n c.args.xs.now c.args.ys.now
 placed-now c =
     let s = c in
     let a = s.args in
@@ -57,14 +57,14 @@ insert_all-requires : tie.Need-insert_all-requires
 insert_all-requires c κs = ((net c, (ready-now c, lined-now c, placed-now c)), omega arith)
 
 -- the parents are the plan's
-abbrev parents : tie.After-settle-arg5 → List ℕ
+abbrev parents : tie.After-settle-arg-3-1 → List ℕ
 parents c = c.insert_all.new.parents
 
-parents_long : (c : tie.After-settle-arg5) → 2 * c.args.n ≤ length (parents c)
+parents_long : (c : tie.After-settle-arg-3-1) → 2 * c.args.n ≤ length (parents c)
 parents_long c = omega (arith, c.requires.1, c.insert_all.auto)
 
-planned : (c : tie.After-settle-arg5) → parents_of c.args.n (parents c) ≡ plan_parents tie_rule (net c.before.before.before.before.before.before.before.before.before.before.before.before.before)
-planned c = let r = c in c.insert_all.ensures.0 (net r) (ready-now r) (lined-now r) (placed-now r)
+planned : (c : tie.After-settle-arg-3-1) → parents_of c.args.n (parents c) ≡ plan_parents tie_rule (net c.before.before.before.before.before.before.before.before.before.before.before)
+planned c = let r = c.before.before.before.before.before.before.before.before.before.before.before in c.insert_all.ensures.0 (net r) (ready-now r) (lined-now r) (placed-now r)
 
 settle-requires : tie.Need-settle-requires
 settle-requires c κs =
@@ -84,11 +84,11 @@ settle-requires c κs =
     )
 
 -- the tree is settled
-holds : (c : tie.After-measure-arg4) → HoldsTree c.args.n (parents c.before.before.before.before.before.before.before.before.before) c.settle.new.xs c.settle.new.ys
+holds : (c : tie.After-slice_known-9-1) → HoldsTree c.args.n (parents c.before.before.before.before.before) c.settle.new.xs c.settle.new.ys
 holds c =
     let s = c in
     let a = s.args in
-    let d = c in
+    let d = c.before.before.before.before.before in
     let settle = c.settle in
     planned_holds a.h a.n a.xs.now a.ys.now a.required.now s.requires.0 (parents d) (parents_long d) (planned d) settle.new.xs settle.new.ys (omega (arith, settle.auto)) (omega (arith, settle.auto)) (settle.ensures.0 a.h a.required.now) settle.ensures.1
 
@@ -127,8 +127,8 @@ unfolding plan
 returns c =
     let s = c in
     let a = s.args in
-    let d = c in
-    let r = c in
+    let d = c.before.before.before.before.before.before in
+    let r = c.before.before.before.before.before.before.before.before.before.before.before.before.before.before.before.before.before in
     let N = net r in
     let settle = c.settle in
     let xs = settle.new.xs in

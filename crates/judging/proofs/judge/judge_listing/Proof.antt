@@ -1,9 +1,10 @@
 -- The listing is accepted or refused, then the Kraft maximum is found. No loop.
 use Prim.Native.Nat.{◌*◌, ◌≤◌}
-use mathlib.Core.Path.{subst}
+use mathlib.Core.Path.{ap, subst}
+use mathlib.Core.Bool.{not}
 use native.Mathlib.Omega.{arith}
 use lib.ListN.{length}
-use Rattle.tree.specs.Net.{Net, own_slacks}
+use Rattle.tree.specs.Net.{own_slacks}
 use Rattle.tree.specs.Kraft.{IsKraftMaximum}
 use Rattle.tree.specs.Inner.Arrays.{net_of}
 use Rattle.tree.proofs.Laws.Arrays.PlanArrays.{some_few}
@@ -13,9 +14,6 @@ use Rattle.judging.proofs.Laws.Measuring.{judged_refused, judged_measures, judge
 use borrow.Author.Rules.{rules}
 use Rattle.judging.proofs.judge.judge_listing.Statement.{statement}
 use Rattle.judging.proofs.judge.judge_listing.Tie as tie
-
-abbrev net : tie.Start → Net
-net s = let a = s.args in net_of a.header a.n a.xs.now a.ys.now a.required.now
 
 accept-requires : tie.Need-accept-requires
 accept-requires c κs = search rules
@@ -54,9 +52,9 @@ returns-then-not-wanted : tie.Need-returns-then-not-wanted
 returns-then-not-wanted c =
     let s = c in
     let r = c.accept in
-    let g = c.slack-1.given in
-    let t = c.if-not-wanted.true in
-    judged_measures (net s.before.before.before.before.before.before.before.before.before.before.before.before.before.before.before.before.before.before.before.before.before.before.before.before.before.before.before.before.before) s.args.listing.now (listing_held g.0.0 g.0.1.0 s.args.n r.new.parents r.new.xs r.new.ys) (rw g.1 at r.ensures.0) s.args.wanted t c.of.result c.of.ensures
+    let g = c.in-AcceptedListing in
+    let t = ap not c.if-not-wanted.true in
+    judged_measures (let a = c.args in net_of a.header a.n a.xs.now a.ys.now a.required.now) s.args.listing.now (listing_held g.slack g.wire s.args.n r.new.parents r.new.xs r.new.ys) (rw g.is at r.ensures.0) s.args.wanted t c.of.result c.of.ensures
 
 kraft_maximum-best-requires : tie.Need-kraft_maximum-best-requires
 kraft_maximum-best-requires c κs =
@@ -94,7 +92,7 @@ shape_of-slacks-in-NotAccepted c = search rules
 returns-in-NotAccepted : tie.Need-returns-in-NotAccepted
 returns-in-NotAccepted c =
     let s = c in
-    judged_refused (net s.before.before.before.before.before.before.before.before.before.before.before.before.before.before.before.before.before.before.before.before.before.before.before.before.before.before.before) s.args.listing.now s.args.wanted c.in-NotAccepted.refusal (rw c.in-NotAccepted.is at c.accept.ensures.0)
+    judged_refused (let a = c.args in net_of a.header a.n a.xs.now a.ys.now a.required.now) s.args.listing.now s.args.wanted c.in-NotAccepted.refusal (rw c.in-NotAccepted.is at c.accept.ensures.0)
 
 shape_of-xs-else-not-wanted : tie.Need-shape_of-xs-else-not-wanted
 shape_of-xs-else-not-wanted c = search rules
@@ -125,12 +123,12 @@ returns-else-not-wanted c =
     let s = c in
     let a = s.args in
     let r = c.accept in
-    let g = c.slack-1.given in
+    let g = c.in-AcceptedListing in
     let xs = r.new.xs in
     let ys = r.new.ys in
     let held = s.requires.0.0 in
     let best = c.kraft_maximum-best in
-    judged_value (net s.before.before.before.before.before.before.before.before.before.before.before.before.before.before.before.before.before.before.before.before.before.before.before.before.before.before.before.before.before.before.before.before.before.before.before.before) a.listing.now (listing_held g.0.0 g.0.1.0 a.n r.new.parents xs ys) (rw g.1 at r.ensures.0) s.args.wanted c.if-not-wanted.false held.in_range.branch.0 held.in_range.sinks.0 best.result.0
+    judged_value (let a = c.args in net_of a.header a.n a.xs.now a.ys.now a.required.now) a.listing.now (listing_held g.slack g.wire a.n r.new.parents xs ys) (rw g.is at r.ensures.0) s.args.wanted (ap not c.if-not-wanted.false) held.in_range.branch.0 held.in_range.sinks.0 best.result.0
     (subst (λ K. IsKraftMaximum K.branch (own_slacks K) best.result.0) (kept_net a.header a.n a.xs.now a.ys.now a.required.now xs ys r.ensures.1) best.ensures)
 
 pub judge_listing_spec : {M : Type 1} → statement M

@@ -19,8 +19,8 @@ use Rattle.judging.proofs.judge.judge_rest.Tie as tie
 abbrev netRead : tie.In_default → Net
 netRead c =
     let a = c.args in
-    let l = c.read_rest.new.xs in
-    net_of a.header a.n l.0 l.1.0 l.1.1.0
+    let l = c.read_rest.new in
+    net_of a.header a.n l.xs l.ys l.required
 
 read : (c : tie.In_default) → read_net c.args.net.now ≡ value (netRead c)
 read c = let s = c in net_of_lem _ _ (s.requires.0.0 ∙ (rw c.in_default.is at (c.read_rest.ensures s.args.header)))
@@ -56,9 +56,9 @@ judge_listing-requires c κs =
     let s = c in
     let a = s.args in
     let r = c.read_rest in
-    let l = r.new.xs in
+    let l = r.new in
     let p = s.requires.1 in
-    let h = read_net_holds a.header a.n l.0 l.1.0 l.1.1.0 _ (read c.before.before.before.before.before.before.before.before) (omega (arith, r.auto, p.0)) (omega (arith, r.auto, p.0)) (omega (arith, r.auto, p.0)) in
+    let h = read_net_holds a.header a.n l.xs l.ys l.required _ (read c.before.before.before.before.before.before.before.before) (omega (arith, r.auto, p.0)) (omega (arith, r.auto, p.0)) (omega (arith, r.auto, p.0)) in
     ((h, (p.1.0, omega (arith, r.auto, p.1), omega (arith, r.auto, p.1))), (p.2, omega (arith, r.auto, p.3)))
 
 shape_of-xs : tie.Need-shape_of-xs

@@ -19,10 +19,10 @@ order_sinks-requires c κs =
     omega (arith, some_held a.h a.n a.xs.now a.ys.now a.required.now s.requires.0, c.own_slacks.auto)
 
 -- the net, and that the arrays are its own
-abbrev net : tie.After-worst-of-all-arg3 → Net
+abbrev net : tie.After-worst_of_all-arg-2-1 → Net
 net c = let a = c.args in net_of a.h a.n a.xs.now a.ys.now a.required.now
 
-sorted-now : (c : tie.After-worst-of-all-arg3) → SinksReady (net c) c.args.h.branch.0 c.args.n c.own_slacks.new.own c.order_sinks.new.sinks
+sorted-now : (c : tie.After-worst_of_all-arg-2-1) → SinksReady (net c) c.args.h.branch.0 c.args.n c.own_slacks.new.own c.order_sinks.new.sinks
 sorted-now c =
     let s = c in
     let a = s.args in

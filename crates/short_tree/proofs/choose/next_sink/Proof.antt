@@ -52,7 +52,7 @@ returns c =
     let a = s.args in
     let w = c.loop-s in
     let one = s.requires.0.4 in
-    (w.invariant.5, (looked_end a.parents.now a.xs.now a.ys.now a.n w.auto w.costs w.s w.best one.0 (omega arith) (one.1.0, one.1.1, λ e. one.1.2 ((w.invariant.7 one.0).1 e)) w.invariant.6, w.invariant.7))
+    (w.invariant.5, (looked_end a.parents.now a.xs.now a.ys.now a.n w.kept w.costs w.s w.best one.0 (omega arith) (one.1.0, one.1.1, λ e. one.1.2 ((w.invariant.7 one.0).1 e)) w.invariant.6, w.invariant.7))
 
 pub next_sink_spec : {M : Type 1} → statement M
 next_sink_spec =

@@ -51,11 +51,11 @@ loop-s-preserved c =
     let w = c.loop-s in (
       omega arith,
       omega arith,
-      length-set w.auto w.s a.first ∙ w.invariant.2,
+      length-set w.kept w.s a.first ∙ w.invariant.2,
       length-set w.costs w.s c.nanometres.result ∙ w.invariant.3,
-      filled_more 0 (λ u. a.first) 1 w.auto w.s a.first (omega arith) refl w.invariant.4,
+      filled_more 0 (λ u. a.first) 1 w.kept w.s a.first (omega arith) refl w.invariant.4,
       filled_more 0 (λ u. added_at a.parents.now a.xs.now a.ys.now u a.first) 1 w.costs w.s c.nanometres.result (omega arith) (c.nanometres.ensures ∙ c.edge_to-e.ensures.1) w.invariant.5,
-      λ v l. get_or-set_other w.auto w.s v a.first 0 (omega arith) ∙ w.invariant.6 v l,
+      λ v l. get_or-set_other w.kept w.s v a.first 0 (omega arith) ∙ w.invariant.6 v l,
     )
 
 offset_bounds-kept-first : tie.Need-offset_bounds-kept-first invariant-loop-s decreases-loop-s
@@ -65,7 +65,7 @@ bounds-kept-first : tie.Need-bounds-kept-first invariant-loop-s decreases-loop-s
 bounds-kept-first c = omega arith
 
 shape_of-kept : tie.Need-shape_of-kept invariant-loop-s decreases-loop-s
-shape_of-kept c = let w = c.loop-s in length-set w.auto c.args.first 0 ∙ w.invariant.2
+shape_of-kept c = let w = c.loop-s in length-set w.kept c.args.first 0 ∙ w.invariant.2
 
 shape_of-costs : tie.Need-shape_of-costs invariant-loop-s decreases-loop-s
 shape_of-costs c = c.loop-s.invariant.3
@@ -74,10 +74,10 @@ returns : tie.Need-returns invariant-loop-s decreases-loop-s
 returns c =
     let a = c.args in
     let w = c.loop-s in (
-      get_or-set_same w.auto a.first 0 0 (omega arith),
+      get_or-set_same w.kept a.first 0 0 (omega arith),
       (
-        (λ s from to other. (get_or-set_other w.auto a.first s 0 0 other ∙ w.invariant.4 s from (omega arith), w.invariant.5 s from (omega arith))),
-        λ v l. get_or-set_other w.auto a.first v 0 0 (omega arith) ∙ w.invariant.6 v l,
+        (λ s from to other. (get_or-set_other w.kept a.first s 0 0 other ∙ w.invariant.4 s from (omega arith), w.invariant.5 s from (omega arith))),
+        λ v l. get_or-set_other w.kept a.first v 0 0 (omega arith) ∙ w.invariant.6 v l,
       ),
     )
 

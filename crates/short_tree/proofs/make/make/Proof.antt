@@ -2,7 +2,6 @@
 use mathlib.Core.Path.{◌≡◌, ◌∙◌}
 use mathlib.Core.Option.{none}
 use native.Mathlib.Omega.{arith}
-use lib.ListN.{length}
 use Rattle.tree.specs.Net.{Net}
 use Rattle.tree.specs.Defects.{wrong_children, unreached}
 use Rattle.tree.specs.Measures.{worst_slack, wire_length}

@@ -23,10 +23,10 @@ use Rattle.short_tree.proofs.plan_short.plan_rest.Tie as tie
 
 -- the net that was read into the arrays
 abbrev net : tie.In_default → Net
-net c = let a = c.args in let l = c.read_rest.new.xs in net_of a.header a.n l.0 l.1.0 l.1.1.0
+net c = let a = c.args in let l = c.read_rest.new in net_of a.header a.n l.xs l.ys l.required
 
 sized : (c : tie.In_default) → size (net c) ≡ c.args.n
-sized c = let a = c.args in let l = c.read_rest.new.xs in size_is a.header a.n l.0 l.1.0 l.1.1.0
+sized c = let a = c.args in let l = c.read_rest.new in size_is a.header a.n l.xs l.ys l.required
 
 -- and the weights beside it
 abbrev weights : tie.In_default → List ℕ
@@ -35,14 +35,14 @@ weights c = weights_of c.args.n c.read_rest.new.weights
 read : (c : tie.In_default) → read_weighted c.args.net.now ≡ value (record { net = net c; weights = weights c })
 read c = let s = c in s.requires.0.0 ∙ (rw c.in_default.is at (c.read_rest.ensures s.args.header))
 
-holds : (c : tie.In_default) → (let a = c.args in let l = c.read_rest.new.xs in HoldsNet a.header a.n l.0 l.1.0 l.1.1.0)
+holds : (c : tie.In_default) → (let a = c.args in let l = c.read_rest.new in HoldsNet a.header a.n l.xs l.ys l.required)
 holds c =
     let s = c in
     let a = s.args in
     let r = c.read_rest in
-    let l = r.new.xs in
+    let l = r.new in
     let p = s.requires.1.0 in
-    read_net_holds a.header a.n l.0 l.1.0 l.1.1.0 _ (net_of_lem _ _ (read c)) (omega (arith, r.auto, p)) (omega (arith, r.auto, p)) (omega (arith, r.auto, p))
+    read_net_holds a.header a.n l.xs l.ys l.required _ (net_of_lem _ _ (read c)) (omega (arith, r.auto, p)) (omega (arith, r.auto, p)) (omega (arith, r.auto, p))
 
 -- the listing of its short tree
 abbrev listing : tie.After-make-tally → Listing

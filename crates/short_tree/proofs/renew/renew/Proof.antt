@@ -22,7 +22,7 @@ offer_waiting-requires c κs =
     let w = c.loop-t in
     let I = w.invariant.2 in
     let t-low = c.loop-t-test.true in (
-      (s.args.last, (s.requires.0.0, omega (arith, s.requires.0.1), inside_map s.args.last s.args.kept.now w.auto I.same s.args.s s.requires.0.4)),
+      (s.args.last, (s.requires.0.0, omega (arith, s.requires.0.1), inside_map s.args.last s.args.kept.now w.kept I.same s.args.s s.requires.0.4)),
       (omega (arith, I.kept_long, s.requires.0.2), omega (arith, I.costs_long, s.requires.0.3)),
     )
 
@@ -42,10 +42,10 @@ loop-t-preserved c =
     let t-low = c.loop-t-test.true in (
       omega arith,
       omega arith,
-      turn_more a.n a.last a.s a.parents.now a.xs.now a.ys.now a.kept.now a.costs.now w.t w.auto w.costs I r.new.kept r.new.costs (omega (arith, r.auto)) (omega (arith, r.auto)) r.ensures.1.0.0 r.ensures.1.0.1 r.ensures.1.1
+      turn_more a.n a.last a.s a.parents.now a.xs.now a.ys.now a.kept.now a.costs.now w.t w.kept w.costs I r.new.kept r.new.costs (omega (arith, r.auto)) (omega (arith, r.auto)) r.ensures.1.0.0 r.ensures.1.0.1 r.ensures.1.1
           (λ z. r.ensures.0 z a.last
-          (turn_kept a.n a.last a.s a.parents.now a.xs.now a.ys.now a.kept.now a.costs.now w.t w.auto w.costs I (s.requires.1 w.t (w.invariant.0, t-low, λ e. z (I.kept_todo w.t (omega arith) ∙ e))))
-          (inside_map a.last a.kept.now w.auto I.same a.s s.requires.0.4)),
+          (turn_kept a.n a.last a.s a.parents.now a.xs.now a.ys.now a.kept.now a.costs.now w.t w.kept w.costs I (s.requires.1 w.t (w.invariant.0, t-low, λ e. z (I.kept_todo w.t (omega arith) ∙ e))))
+          (inside_map a.last a.kept.now w.kept I.same a.s s.requires.0.4)),
     )
 
 shape_of-kept : tie.Need-shape_of-kept invariant-loop-t decreases-loop-t
@@ -58,7 +58,7 @@ returns : tie.Need-returns invariant-loop-t decreases-loop-t
 returns c =
     let a = c.args in
     let w = c.loop-t in
-    (turn_end a.n a.last a.s a.parents.now a.xs.now a.ys.now a.kept.now a.costs.now w.t w.auto w.costs w.invariant.2 (omega arith), w.invariant.2.same)
+    (turn_end a.n a.last a.s a.parents.now a.xs.now a.ys.now a.kept.now a.costs.now w.t w.kept w.costs w.invariant.2 (omega arith), w.invariant.2.same)
 
 pub renew_spec : {M : Type 1} → statement M
 renew_spec =
