@@ -1,6 +1,5 @@
--- The rooms of the buffers, the ranges of the measures, what stands in the buffers in the end, what a read moves, and that no answer is a part of another.
+-- The rooms of the buffers, the ranges of the measures, what stands in the buffers in the end, and that no answer is a part of another.
 pub mod Rooms
 pub mod Judgements
 pub mod Answers
-pub mod Streams
 pub mod OneAnswer

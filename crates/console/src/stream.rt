@@ -2,10 +2,15 @@
 ghost use Rattle.console.specs.Inner.Rooms.{FitsIn};
 ghost use Rattle.std.specs.Prelude.{◌≤◌, length};
 
-use libc::{EINTR, STDERR_FILENO, STDOUT_FILENO};
+use std::fs;
+use std::io::{Error, ErrorKind, Read, Write};
+use std::rt::Files;
 
 // How many signals may interrupt the reading of one text.
 const INTERRUPTIONS: usize = 1_000;
+
+// Room for the system's words for any error, with its number.
+const WORDS_LENGTH: usize = 256;
 
 // How the reading of a text went: it ended after so many bytes, it filled its room before any end was seen, or a read failed.
 #[derive(Clone, Copy)]
@@ -15,69 +20,98 @@ pub enum Input {
     Failed,
 }
 
-// Reads a text to its end. No read follows the one that tells the end, so that at a terminal one ^D is enough.
-pub fn read_text(fd: i32, text: &mut [u8]) -> Input
+// What failed and why, in a line on standard error: the system's words, without the error's number that std puts after them.
+fn tell_failure<E: Write>(err: &mut E, name: &str, error: Error) {
+    let mut words = [0u8; WORDS_LENGTH];
+    let mut rest: &mut [u8] = &mut words;
+    let _ = write!(rest, "{error}");
+    let length = WORDS_LENGTH.saturating_sub(rest.len());
+    let told = match std::str::from_utf8(&words[..length]) {
+        Ok(text) => text,
+        Err(_) => "",
+    };
+    let message = match told.rsplit_once(" (os error ") {
+        Some((front, _)) => front,
+        None => told,
+    };
+    let _ = err.write_all(name.as_bytes());
+    let _ = err.write_all(b": ");
+    let _ = err.write_all(message.as_bytes());
+    let _ = err.write_all(b"\n");
+}
+
+// Reads a text to its end. No read follows the one that tells the end, so that at a terminal one ^D is enough. Where it could not be read, that is told on
+// standard error by the text's name.
+pub fn read_text<R: Read, E: Write>(
+    input: &mut R,
+    name: &str,
+    text: &mut [u8],
+    err: &mut E,
+) -> Input
     ensures { FitsIn (length text.old) result }
 {
     let mut at = 0;
     let mut interrupted = 0;
-    while at < text.len() && interrupted < INTERRUPTIONS {
-        let got = libc::read(fd, &mut text[at..]);
-        if got > 0 {
-            at += got as usize;
-        } else if got == 0 {
-            return Input::Ended { bytes: at };
-        } else if os::errno() == EINTR {
-            interrupted += 1;
-        } else {
-            return Input::Failed;
+    while at < text.len() {
+        match input.read(&mut text[at..]) {
+            Ok(0) => return Input::Ended { bytes: at },
+            Ok(got) => at += got,
+            Err(error) => {
+                interrupted += 1;
+                if error.kind() != ErrorKind::Interrupted || interrupted == INTERRUPTIONS {
+                    tell_failure(err, name, error);
+                    return Input::Failed;
+                }
+            }
         }
-    }
-    if at < text.len() {
-        return Input::Failed;
     }
     Input::Full
 }
 
 // Reads a file to its end. Where it could not be read, that is told on standard error.
-pub fn read_file(name: &[u8], text: &mut [u8]) -> Input
+pub fn read_file<F: Files, E: Write>(files: &F, name: &str, text: &mut [u8], err: &mut E) -> Input
     ensures { FitsIn (length text.old) result }
 {
-    let fd = os::open_read(name);
-    if fd < 0 {
-        os::fail(name);
-        return Input::Failed;
+    match fs::open(files, name) {
+        Ok(opened) => {
+            let mut file = opened;
+            read_text(&mut file, name, text, err)
+        }
+        Err(error) => {
+            tell_failure(err, name, error);
+            Input::Failed
+        }
     }
-    let input = read_text(fd, text);
-    if let Input::Failed = input {
-        os::fail(name);
-    }
-    libc::close(fd);
-    input
 }
 
 // The answer goes out by one write: nothing is written after a write that took only a part. What is given is how many of its bytes went out, as the system tells.
-fn write_answer(answer: &[u8]) -> usize
+fn write_answer<O: Write, E: Write>(out: &mut O, err: &mut E, answer: &[u8]) -> usize
     ensures { result ≤ length answer.now }
 {
-    let put = libc::write(STDOUT_FILENO, answer);
-    let sent = io::count(put, answer);
-    if put < 0 {
-        os::fail(b"standard output");
-    } else if sent < answer.len() {
-        io::write_all(
-            STDERR_FILENO,
-            b"standard output: the answer was cut short\n",
-        );
+    match out.write(answer) {
+        Ok(sent) => {
+            if sent < answer.len() {
+                let _ = err.write_all(b"standard output: the answer was cut short\n");
+            }
+            sent
+        }
+        Err(error) => {
+            tell_failure(err, "standard output", error);
+            0
+        }
     }
-    sent
 }
 
 // The answer goes to standard output, the complaint to standard error. What could not go out is told on standard error. What is given is how many bytes of the answer went out, as the system tells.
-pub fn write_out(answer: &[u8], complaint: &[u8]) -> usize
+pub fn write_out<O: Write, E: Write>(
+    out: &mut O,
+    err: &mut E,
+    answer: &[u8],
+    complaint: &[u8],
+) -> usize
     ensures { result ≤ length answer.now }
 {
-    let sent = write_answer(answer);
-    io::write_all(STDERR_FILENO, complaint);
+    let sent = write_answer(out, err, answer);
+    let _ = err.write_all(complaint);
     sent
 }

@@ -2,591 +2,732 @@
 // requests 1, 4, 5, 6 and 7 the listing, of those of request 8 the score's bits, of those of request 9 both texts.
 #![tactic(auto)]
 
+use console::stream::{Input, read_file};
 use first_plan::plan::plan;
 use formats::limits::{LISTING_LENGTH_LIMIT, NET_LENGTH_LIMIT};
 use formats::refusal::{Refusal, tell};
 use judging::judge::judge;
-use libc::STDOUT_FILENO;
 use operations::answers::{JudgeAnswer, PlanAnswer};
 use pin_deletion::delete_pin::{DeletionAnswer, delete_pin};
 use scoring::score::{ScoreAnswer, score};
 use short_tree::plan_short::plan_short;
+use std::io;
 use weighted_tree::plan_weighted::plan_weighted;
 
-fn show_figures(number: u8, text: u8, line: usize, bytes: usize) {
-    io::print_decimal(STDOUT_FILENO, number as u64);
-    io::write_all(STDOUT_FILENO, b",");
-    io::print_decimal(STDOUT_FILENO, text as u64);
-    io::write_all(STDOUT_FILENO, b",");
-    io::print_decimal(STDOUT_FILENO, line as u64);
-    io::write_all(STDOUT_FILENO, b" ");
-    io::print_decimal(STDOUT_FILENO, bytes as u64);
-    io::write_all(STDOUT_FILENO, b"\n");
+fn show_figures(
+    rt: &HostRuntime,
+    number: u8,
+    text: u8,
+    line: usize,
+    bytes: usize,
+) -> io::Result<()> {
+    println!(rt; "{number},{text},{line} {bytes}")
 }
 
-fn show_refusal(refusal: Refusal) {
+fn show_refusal(rt: &HostRuntime, refusal: Refusal) -> io::Result<()> {
     let told = tell(refusal);
-    show_figures(told.number, told.text, told.line, 0);
+    show_figures(rt, told.number, told.text, told.line, 0)
 }
 
-fn show_judgement(net: &[u8], listing: &[u8]) {
+fn show_judgement(rt: &HostRuntime, net: &[u8], listing: &[u8]) -> io::Result<()> {
     match judge(net, listing) {
-        JudgeAnswer::Judged { slack, wire, best } => show_figures(0, 0, 0, 0),
-        JudgeAnswer::JudgeRefused { refusal } => show_refusal(refusal),
+        JudgeAnswer::Judged { slack, wire, best } => show_figures(rt, 0, 0, 0, 0),
+        JudgeAnswer::JudgeRefused { refusal } => show_refusal(rt, refusal),
     }
 }
 
 // What judge returns for A and a listing of it.
-fn judge_a(listing: &[u8]) {
+fn judge_a(rt: &HostRuntime, listing: &[u8]) -> io::Result<()> {
     show_judgement(
+        rt,
         b"root=0,0\nbranch=20\nwire=2,2\nneed=0\nsinks=3\nsink=10,0,100,1\nsink=4,6,60,1\nsink=10,10,70,1\n",
         listing,
-    );
+    )
 }
 
 // What judge returns for the listing in the first bytes of `out`.
-fn judge_written(net: &[u8], out: &[u8], bytes: usize) {
+fn judge_written(rt: &HostRuntime, net: &[u8], out: &[u8], bytes: usize) -> io::Result<()> {
     if out.len() < bytes {
-        return;
+        return Ok(());
     }
-    show_judgement(net, &out[..bytes]);
+    show_judgement(rt, net, &out[..bytes])
 }
 
 // What plan returns, then what judge returns: over what plan wrote, or over no listing where the net is refused.
-fn show(net: &[u8]) {
+fn show(rt: &HostRuntime, net: &[u8]) -> io::Result<()> {
     let mut out = [0u8; LISTING_LENGTH_LIMIT];
     match plan(net, &mut out) {
         PlanAnswer::Planned { slack, wire, bytes } => {
-            show_figures(0, 0, 0, bytes);
-            judge_written(net, &out, bytes);
+            show_figures(rt, 0, 0, 0, bytes)?;
+            judge_written(rt, net, &out, bytes)
         }
         PlanAnswer::PlanRefused { refusal } => {
-            show_refusal(refusal);
-            show_judgement(net, b"no listing");
+            show_refusal(rt, refusal)?;
+            show_judgement(rt, net, b"no listing")
         }
     }
 }
 
-fn print_listing(out: &[u8], bytes: usize) -> bool {
+fn print_listing(rt: &HostRuntime, out: &[u8], bytes: usize) -> io::Result<()> {
     if out.len() < bytes {
-        return false;
+        return Ok(());
     }
-    io::write_all(STDOUT_FILENO, &out[..bytes])
+    rt.write_all(&out[..bytes])
 }
 
-fn show_listing(net: &[u8]) {
+fn show_listing(rt: &HostRuntime, net: &[u8]) -> io::Result<()> {
     let mut out = [0u8; LISTING_LENGTH_LIMIT];
     match plan(net, &mut out) {
-        PlanAnswer::Planned { slack, wire, bytes } => {
-            print_listing(&out, bytes);
-        }
-        PlanAnswer::PlanRefused { refusal } => show_refusal(refusal),
+        PlanAnswer::Planned { slack, wire, bytes } => { print_listing(rt, &out, bytes) }
+        PlanAnswer::PlanRefused { refusal } => show_refusal(rt, refusal),
     }
 }
 
 // The listing of the short tree, and what judge returns for it.
-fn show_short(net: &[u8]) {
+fn show_short(rt: &HostRuntime, net: &[u8]) -> io::Result<()> {
     let mut out = [0u8; LISTING_LENGTH_LIMIT];
     match plan_short(net, &mut out) {
         PlanAnswer::Planned { slack, wire, bytes } => {
-            print_listing(&out, bytes);
-            judge_written(net, &out, bytes);
+            print_listing(rt, &out, bytes)?;
+            judge_written(rt, net, &out, bytes)
         }
-        PlanAnswer::PlanRefused { refusal } => show_refusal(refusal),
+        PlanAnswer::PlanRefused { refusal } => show_refusal(rt, refusal),
     }
 }
 
 // The same of the tree by switching weights.
-fn show_weighted(net: &[u8]) {
+fn show_weighted(rt: &HostRuntime, net: &[u8]) -> io::Result<()> {
     let mut out = [0u8; LISTING_LENGTH_LIMIT];
     match plan_weighted(net, &mut out) {
         PlanAnswer::Planned { slack, wire, bytes } => {
-            print_listing(&out, bytes);
-            judge_written(net, &out, bytes);
+            print_listing(rt, &out, bytes)?;
+            judge_written(rt, net, &out, bytes)
         }
-        PlanAnswer::PlanRefused { refusal } => show_refusal(refusal),
+        PlanAnswer::PlanRefused { refusal } => show_refusal(rt, refusal),
     }
 }
 
 // The bits of the score, or its refusal.
-fn show_score(net: &[u8], listing: &[u8], alpha_1024ths: i64, beta_1024ths: i64, cap: i64) {
+fn show_score(
+    rt: &HostRuntime,
+    net: &[u8],
+    listing: &[u8],
+    alpha_1024ths: i64,
+    beta_1024ths: i64,
+    cap: i64,
+) -> io::Result<()> {
     match score(net, listing, alpha_1024ths, beta_1024ths, cap) {
         ScoreAnswer::Scored { score: given } => {
-            io::print_hex(STDOUT_FILENO, f64::to_bits(given), 16);
-            io::write_all(STDOUT_FILENO, b"\n");
+            let bits = f64::to_bits(given);
+            println!(rt; "{bits:016x}")
         }
-        ScoreAnswer::ScoreRefused { refusal } => show_refusal(refusal),
+        ScoreAnswer::ScoreRefused { refusal } => show_refusal(rt, refusal),
     }
 }
 
 // What judge returns for the net and the listing in the first bytes of two outputs.
-fn judge_shorter(net_out: &[u8], net_bytes: usize, listing_out: &[u8], listing_bytes: usize) {
+fn judge_shorter(
+    rt: &HostRuntime,
+    net_out: &[u8],
+    net_bytes: usize,
+    listing_out: &[u8],
+    listing_bytes: usize,
+) -> io::Result<()> {
     if net_out.len() < net_bytes {
-        return;
+        return Ok(());
     }
-    judge_written(&net_out[..net_bytes], listing_out, listing_bytes);
+    judge_written(rt, &net_out[..net_bytes], listing_out, listing_bytes)
 }
 
 // Both texts without a sink and what judge returns for them, or the refusal.
 fn show_deletion(
+    rt: &HostRuntime,
     net: &[u8],
     listing: &[u8],
     sink: usize,
     net_out: &mut [u8],
     listing_out: &mut [u8],
-) {
+) -> io::Result<()> {
     match delete_pin(net, listing, sink, net_out, listing_out) {
         DeletionAnswer::Deleted {
             net_bytes,
             listing_bytes,
         } => {
-            print_listing(net_out, net_bytes);
-            print_listing(listing_out, listing_bytes);
-            judge_shorter(net_out, net_bytes, listing_out, listing_bytes);
+            print_listing(rt, net_out, net_bytes)?;
+            print_listing(rt, listing_out, listing_bytes)?;
+            judge_shorter(rt, net_out, net_bytes, listing_out, listing_bytes)
         }
-        DeletionAnswer::DeletionRefused { refusal } => show_refusal(refusal),
+        DeletionAnswer::DeletionRefused { refusal } => show_refusal(rt, refusal),
     }
 }
 
 // The same into outputs that have room for any texts.
-fn show_without(net: &[u8], listing: &[u8], sink: usize) {
+fn show_without(rt: &HostRuntime, net: &[u8], listing: &[u8], sink: usize) -> io::Result<()> {
     let mut net_out = [0u8; NET_LENGTH_LIMIT];
     let mut listing_out = [0u8; LISTING_LENGTH_LIMIT];
-    show_deletion(net, listing, sink, &mut net_out, &mut listing_out);
+    show_deletion(rt, net, listing, sink, &mut net_out, &mut listing_out)
 }
 
-fn show_file(name: &[u8]) {
-    let fd = os::open_read(name);
-    if fd < 0 {
-        os::fail(name);
-        return;
-    }
+fn show_file(rt: &HostRuntime, name: &str) -> io::Result<()> {
     let mut net = [0u8; NET_LENGTH_LIMIT + 1];
-    let n = io::read_full(fd, &mut net);
-    libc::close(fd);
-    show(&net[..n]);
+    match read_file(rt, name, &mut net, &mut rt.stderr()) {
+        Input::Ended { bytes } => show(rt, &net[..bytes]),
+        Input::Full => show(rt, &net),
+        Input::Failed => Ok(()),
+    }
 }
 
 // Nets of 01 that are refused as they are read, and A.
-fn show_lines() {
+fn show_lines(rt: &HostRuntime) -> io::Result<()> {
     // Empty net: 2,1,1.
-    show(b"");
+    show(rt, b"")?;
     // `branch=0`: 3,1,2.
     show(
+        rt,
         b"root=0,0\nbranch=0\nwire=2,2\nneed=0\nsinks=3\nsink=10,0,100,1\nsink=4,6,60,1\nsink=10,10,70,1\n",
-    );
+    )?;
     // `need=-0`: 2,1,4.
     show(
+        rt,
         b"root=0,0\nbranch=20\nwire=2,2\nneed=-0\nsinks=3\nsink=10,0,100,1\nsink=4,6,60,1\nsink=10,10,70,1\n",
-    );
+    )?;
     // A, and A with `need=1`: 5,1,4; judge reads the net and refuses the listing.
     show(
+        rt,
         b"root=0,0\nbranch=20\nwire=2,2\nneed=0\nsinks=3\nsink=10,0,100,1\nsink=4,6,60,1\nsink=10,10,70,1\n",
-    );
+    )?;
     show(
+        rt,
         b"root=0,0\nbranch=20\nwire=2,2\nneed=1\nsinks=3\nsink=10,0,100,1\nsink=4,6,60,1\nsink=10,10,70,1\n",
-    );
+    )?;
     // `sinks=513`: 3,1,5.
     show(
+        rt,
         b"root=0,0\nbranch=20\nwire=2,2\nneed=0\nsinks=513\nsink=10,0,100,1\nsink=4,6,60,1\nsink=10,10,70,1\n",
-    );
+    )?;
     // 512 sinks pass.
-    show_file(b"sinks512.txt");
+    show_file(rt, "sinks512.txt")
 }
 
 // Positions at their limit and beyond, with the pin limit of 02's request 2, in the nanometres of its request 5.
-fn show_positions() {
+fn show_positions(rt: &HostRuntime) -> io::Result<()> {
     // X 100000000 passes with a root near enough, else 13.
     show(
+        rt,
         b"root=60000000,0\nbranch=20\nwire=2,2\nneed=-2000000000000000\nsinks=1\nsink=100000000,0,100,1\n",
-    );
+    )?;
     show(
+        rt,
         b"root=0,0\nbranch=20\nwire=2,2\nneed=-2000000000000000\nsinks=1\nsink=100000000,0,100,1\n",
-    );
+    )?;
     // 100000001: 3, in X and Y of the root and of a sink.
     show(
+        rt,
         b"root=100000001,0\nbranch=20\nwire=2,2\nneed=-2000000000000000\nsinks=1\nsink=100000000,0,100,1\n",
-    );
+    )?;
     show(
+        rt,
         b"root=0,-100000001\nbranch=20\nwire=2,2\nneed=-2000000000000000\nsinks=1\nsink=0,-100000000,100,1\n",
-    );
+    )?;
     show(
+        rt,
         b"root=0,0\nbranch=20\nwire=2,2\nneed=-2000000000000000\nsinks=1\nsink=100000001,0,100,1\n",
-    );
+    )?;
     show(
+        rt,
         b"root=0,100000000\nbranch=20\nwire=2,2\nneed=-2000000000000000\nsinks=1\nsink=0,100000001,100,1\n",
-    );
+    )?;
     // 40,000,000 from the root passes, 40,000,001: 13; by X alone, then by X and Y.
     show(
+        rt,
         b"root=0,0\nbranch=20\nwire=2,2\nneed=-2000000000000000\nsinks=1\nsink=40000000,0,100,1\n",
-    );
+    )?;
     show(
+        rt,
         b"root=0,0\nbranch=20\nwire=2,2\nneed=-2000000000000000\nsinks=1\nsink=40000001,0,100,1\n",
-    );
+    )?;
     show(
+        rt,
         b"root=-10000000,5000000\nbranch=20\nwire=2,2\nneed=-2000000000000000\nsinks=1\nsink=5000000,-20000000,100,1\n",
-    );
+    )?;
     show(
+        rt,
         b"root=-10000000,5000000\nbranch=20\nwire=2,2\nneed=-2000000000000000\nsinks=1\nsink=5000000,-20000001,100,1\n",
-    );
+    )?;
     // A far pin, then a line that is misspelt: the first line that is refused.
     show(
+        rt,
         b"root=0,0\nbranch=20\nwire=2,2\nneed=-2000000000000000\nsinks=3\nsink=10,0,100,1\nsink=0,-40000001,60,1\nsink=x\n",
-    );
+    )
 }
 
 // The ends of the ranges of c, t, a, W and L, which 02's request 5 moves.
-fn show_ranges() {
+fn show_ranges(rt: &HostRuntime) -> io::Result<()> {
     // Both ends of c, t and a pass: the lowest t is reached, the highest is not (5).
     show(
+        rt,
         b"root=0,0\nbranch=1\nwire=2,2\nneed=-2000000000000000\nsinks=1\nsink=0,0,-1000000000000000,1\n",
-    );
+    )?;
     show(
+        rt,
         b"root=0,0\nbranch=1000000000\nwire=2,2\nneed=2000000000000000\nsinks=1\nsink=0,0,1000000000000000,1\n",
-    );
+    )?;
     // One past them: 3, as of `branch=0` above.
-    show(b"root=0,0\nbranch=1000000001\nwire=2,2\nneed=0\nsinks=1\nsink=0,0,0,1\n");
-    show(b"root=0,0\nbranch=20\nwire=2,2\nneed=-2000000000000001\nsinks=1\nsink=0,0,0,1\n");
-    show(b"root=0,0\nbranch=20\nwire=2,2\nneed=2000000000000001\nsinks=1\nsink=0,0,0,1\n");
-    show(b"root=0,0\nbranch=20\nwire=2,2\nneed=0\nsinks=1\nsink=0,0,-1000000000000001,1\n");
-    show(b"root=0,0\nbranch=20\nwire=2,2\nneed=0\nsinks=1\nsink=0,0,1000000000000001,1\n");
+    show(
+        rt,
+        b"root=0,0\nbranch=1000000001\nwire=2,2\nneed=0\nsinks=1\nsink=0,0,0,1\n",
+    )?;
+    show(
+        rt,
+        b"root=0,0\nbranch=20\nwire=2,2\nneed=-2000000000000001\nsinks=1\nsink=0,0,0,1\n",
+    )?;
+    show(
+        rt,
+        b"root=0,0\nbranch=20\nwire=2,2\nneed=2000000000000001\nsinks=1\nsink=0,0,0,1\n",
+    )?;
+    show(
+        rt,
+        b"root=0,0\nbranch=20\nwire=2,2\nneed=0\nsinks=1\nsink=0,0,-1000000000000001,1\n",
+    )?;
+    show(
+        rt,
+        b"root=0,0\nbranch=20\nwire=2,2\nneed=0\nsinks=1\nsink=0,0,1000000000000001,1\n",
+    )?;
     // A's listing with W and L at their ends: 11, 12; one past them: 3.
     judge_a(
+        rt,
         b"slack=-4000000000000000\nwire=32\nsinks=3\nleaf=1,5\nleaf=2,5\nleaf=3,4\nnode=4,0,4,0\nnode=5,4,4,0\n",
-    );
+    )?;
     judge_a(
+        rt,
         b"slack=4000000000000000\nwire=32\nsinks=3\nleaf=1,5\nleaf=2,5\nleaf=3,4\nnode=4,0,4,0\nnode=5,4,4,0\n",
-    );
+    )?;
     judge_a(
+        rt,
         b"slack=-4000000000000001\nwire=32\nsinks=3\nleaf=1,5\nleaf=2,5\nleaf=3,4\nnode=4,0,4,0\nnode=5,4,4,0\n",
-    );
+    )?;
     judge_a(
+        rt,
         b"slack=4000000000000001\nwire=32\nsinks=3\nleaf=1,5\nleaf=2,5\nleaf=3,4\nnode=4,0,4,0\nnode=5,4,4,0\n",
-    );
+    )?;
     judge_a(
+        rt,
         b"slack=0\nwire=0\nsinks=3\nleaf=1,5\nleaf=2,5\nleaf=3,4\nnode=4,0,4,0\nnode=5,4,4,0\n",
-    );
+    )?;
     judge_a(
+        rt,
         b"slack=0\nwire=1000000000000\nsinks=3\nleaf=1,5\nleaf=2,5\nleaf=3,4\nnode=4,0,4,0\nnode=5,4,4,0\n",
-    );
+    )?;
     judge_a(
+        rt,
         b"slack=0\nwire=-1\nsinks=3\nleaf=1,5\nleaf=2,5\nleaf=3,4\nnode=4,0,4,0\nnode=5,4,4,0\n",
-    );
+    )?;
     judge_a(
+        rt,
         b"slack=0\nwire=1000000000001\nsinks=3\nleaf=1,5\nleaf=2,5\nleaf=3,4\nnode=4,0,4,0\nnode=5,4,4,0\n",
-    );
+    )
 }
 
 // 02's request 5: long texts, and "Nothing is lost".
-fn show_nanometres() {
+fn show_nanometres(rt: &HostRuntime) -> io::Result<()> {
     // 512 sinks with the longest numbers of all ranges.
-    show_file(b"longest512.txt");
+    show_file(rt, "longest512.txt")?;
     // A net, and 1,000 times that net.
     show_listing(
+        rt,
         b"root=-3,2\nbranch=20\nwire=2,6\nneed=-30\nsinks=4\nsink=7,2,40,1\nsink=1,8,64,1\nsink=7,8,110,1\nsink=5,-4,97,1\n",
-    );
+    )?;
     show_listing(
+        rt,
         b"root=-3000,2000\nbranch=20000\nwire=2,6\nneed=-30000\nsinks=4\nsink=7000,2000,40000,1\nsink=1000,8000,64000,1\nsink=7000,8000,110000,1\nsink=5000,-4000,97000,1\n",
-    );
+    )
 }
 
 // The two factors of 02's request 4.
-fn show_factors() {
+fn show_factors(rt: &HostRuntime) -> io::Result<()> {
     // One number, three: 2,1,3.
     show(
+        rt,
         b"root=0,0\nbranch=20\nwire=2\nneed=0\nsinks=3\nsink=10,0,100,1\nsink=4,6,110,1\nsink=10,10,150,1\n",
-    );
+    )?;
     show(
+        rt,
         b"root=0,0\nbranch=20\nwire=2,6,2\nneed=0\nsinks=3\nsink=10,0,100,1\nsink=4,6,110,1\nsink=10,10,150,1\n",
-    );
+    )?;
     // 1 and 10000 pass, 0 and 10001: 3,1,3.
-    show(b"root=0,0\nbranch=20\nwire=1,10000\nneed=-2000000000000000\nsinks=1\nsink=3,4,100,1\n");
-    show(b"root=0,0\nbranch=20\nwire=10000,1\nneed=-2000000000000000\nsinks=1\nsink=3,4,100,1\n");
-    show(b"root=0,0\nbranch=20\nwire=0,6\nneed=0\nsinks=1\nsink=3,4,100,1\n");
-    show(b"root=0,0\nbranch=20\nwire=2,0\nneed=0\nsinks=1\nsink=3,4,100,1\n");
-    show(b"root=0,0\nbranch=20\nwire=10001,6\nneed=0\nsinks=1\nsink=3,4,100,1\n");
-    show(b"root=0,0\nbranch=20\nwire=2,10001\nneed=0\nsinks=1\nsink=3,4,100,1\n");
+    show(
+        rt,
+        b"root=0,0\nbranch=20\nwire=1,10000\nneed=-2000000000000000\nsinks=1\nsink=3,4,100,1\n",
+    )?;
+    show(
+        rt,
+        b"root=0,0\nbranch=20\nwire=10000,1\nneed=-2000000000000000\nsinks=1\nsink=3,4,100,1\n",
+    )?;
+    show(
+        rt,
+        b"root=0,0\nbranch=20\nwire=0,6\nneed=0\nsinks=1\nsink=3,4,100,1\n",
+    )?;
+    show(
+        rt,
+        b"root=0,0\nbranch=20\nwire=2,0\nneed=0\nsinks=1\nsink=3,4,100,1\n",
+    )?;
+    show(
+        rt,
+        b"root=0,0\nbranch=20\nwire=10001,6\nneed=0\nsinks=1\nsink=3,4,100,1\n",
+    )?;
+    show(
+        rt,
+        b"root=0,0\nbranch=20\nwire=2,10001\nneed=0\nsinks=1\nsink=3,4,100,1\n",
+    )?;
     // Both factors, then either alone: three trees.
     show_listing(
+        rt,
         b"root=0,0\nbranch=20\nwire=2,6\nneed=0\nsinks=3\nsink=10,0,100,1\nsink=4,6,110,1\nsink=10,10,150,1\n",
-    );
+    )?;
     show_listing(
+        rt,
         b"root=0,0\nbranch=20\nwire=2,2\nneed=0\nsinks=3\nsink=10,0,100,1\nsink=4,6,110,1\nsink=10,10,150,1\n",
-    );
+    )?;
     show_listing(
+        rt,
         b"root=0,0\nbranch=20\nwire=6,6\nneed=0\nsinks=3\nsink=10,0,100,1\nsink=4,6,110,1\nsink=10,10,150,1\n",
-    );
+    )?;
     // Nearness stays plain: sink 3 joins sink 2, which is 4 nanometres off, and not sink 1, 6 off.
     show_listing(
+        rt,
         b"root=0,0\nbranch=20\nwire=2,6\nneed=-40\nsinks=3\nsink=10,4,44,1\nsink=4,0,8,1\nsink=4,4,32,1\n",
-    );
+    )
 }
 
 // Request 6 of 02: A, also with a need that no tree has; ties by sink; the edge above a branch point; ties by lower end; one sink; a far pin: 13,1,6.
-fn show_short_trees() {
+fn show_short_trees(rt: &HostRuntime) -> io::Result<()> {
     show_short(
+        rt,
         b"root=0,0\nbranch=20\nwire=2,2\nneed=0\nsinks=3\nsink=10,0,100,1\nsink=4,6,60,1\nsink=10,10,70,1\n",
-    );
+    )?;
     show_short(
+        rt,
         b"root=0,0\nbranch=20\nwire=2,2\nneed=1\nsinks=3\nsink=10,0,100,1\nsink=4,6,60,1\nsink=10,10,70,1\n",
-    );
+    )?;
     show_short(
+        rt,
         b"root=0,0\nbranch=20\nwire=2,3\nneed=0\nsinks=3\nsink=3,4,60,1\nsink=2,4,60,1\nsink=5,0,60,1\n",
-    );
+    )?;
     show_short(
+        rt,
         b"root=0,0\nbranch=20\nwire=2,2\nneed=0\nsinks=3\nsink=10,2,100,1\nsink=10,-2,100,1\nsink=5,9,100,1\n",
-    );
+    )?;
     show_short(
+        rt,
         b"root=0,0\nbranch=20\nwire=2,2\nneed=-40\nsinks=3\nsink=0,0,0,1\nsink=0,0,0,1\nsink=0,0,0,1\n",
-    );
-    show_short(b"root=0,0\nbranch=20\nwire=2,2\nneed=0\nsinks=1\nsink=3,4,10,1\n");
-    show_short(b"root=0,0\nbranch=20\nwire=2,2\nneed=0\nsinks=1\nsink=40000001,0,100,1\n");
+    )?;
+    show_short(
+        rt,
+        b"root=0,0\nbranch=20\nwire=2,2\nneed=0\nsinks=1\nsink=3,4,10,1\n",
+    )?;
+    show_short(
+        rt,
+        b"root=0,0\nbranch=20\nwire=2,2\nneed=0\nsinks=1\nsink=40000001,0,100,1\n",
+    )
 }
 
 // Request 7 of 02: weights 1, 1, 2, 3, 5; ties between sinks and a joined vertex, and among joined ones; A with weights 5, 1, 1, also with a need that no tree has;
 // one sink.
-fn show_weighted_trees() {
+fn show_weighted_trees(rt: &HostRuntime) -> io::Result<()> {
     show_weighted(
+        rt,
         b"root=0,0\nbranch=20\nwire=2,2\nneed=0\nsinks=5\nsink=8,0,100,1\nsink=8,4,100,1\nsink=2,6,100,2\nsink=-4,2,100,3\nsink=0,-5,100,5\n",
-    );
+    )?;
     show_weighted(
+        rt,
         b"root=0,0\nbranch=20\nwire=2,2\nneed=0\nsinks=4\nsink=8,0,100,3\nsink=8,4,100,1\nsink=2,6,100,2\nsink=4,2,100,3\n",
-    );
+    )?;
     show_weighted(
+        rt,
         b"root=0,0\nbranch=20\nwire=2,2\nneed=0\nsinks=6\nsink=8,0,100,1\nsink=8,4,100,1\nsink=2,6,100,1\nsink=4,2,100,1\nsink=1,9,100,1\nsink=6,6,100,1\n",
-    );
+    )?;
     show_weighted(
+        rt,
         b"root=0,0\nbranch=20\nwire=2,2\nneed=0\nsinks=3\nsink=10,0,100,5\nsink=4,6,60,1\nsink=10,10,70,1\n",
-    );
+    )?;
     show_weighted(
+        rt,
         b"root=0,0\nbranch=20\nwire=2,2\nneed=1\nsinks=3\nsink=10,0,100,5\nsink=4,6,60,1\nsink=10,10,70,1\n",
-    );
-    show_weighted(b"root=0,0\nbranch=20\nwire=2,2\nneed=0\nsinks=1\nsink=3,4,10,1000\n");
+    )?;
+    show_weighted(
+        rt,
+        b"root=0,0\nbranch=20\nwire=2,2\nneed=0\nsinks=1\nsink=3,4,10,1000\n",
+    )
 }
 
 // Weights at the ends of their range: they pass; one past it: 3,1,6; none, or two: 2,1,6; a far pin: 13,1,6, after 3.
-fn show_weights() {
-    show_weighted(b"root=0,0\nbranch=20\nwire=2,2\nneed=0\nsinks=1\nsink=0,0,0,1\n");
-    show_weighted(b"root=0,0\nbranch=20\nwire=2,2\nneed=0\nsinks=1\nsink=0,0,0,0\n");
-    show_weighted(b"root=0,0\nbranch=20\nwire=2,2\nneed=0\nsinks=1\nsink=0,0,0,1001\n");
-    show_weighted(b"root=0,0\nbranch=20\nwire=2,2\nneed=0\nsinks=1\nsink=0,0,0\n");
-    show_weighted(b"root=0,0\nbranch=20\nwire=2,2\nneed=0\nsinks=1\nsink=0,0,0,1,1\n");
-    show_weighted(b"root=0,0\nbranch=20\nwire=2,2\nneed=0\nsinks=1\nsink=40000001,0,0,1000\n");
-    show_weighted(b"root=0,0\nbranch=20\nwire=2,2\nneed=0\nsinks=1\nsink=40000001,0,0,1001\n");
-    show(b"root=0,0\nbranch=20\nwire=2,2\nneed=0\nsinks=1\nsink=0,0,0\n");
-    show_short(b"root=0,0\nbranch=20\nwire=2,2\nneed=0\nsinks=1\nsink=0,0,0\n");
+fn show_weights(rt: &HostRuntime) -> io::Result<()> {
+    show_weighted(
+        rt,
+        b"root=0,0\nbranch=20\nwire=2,2\nneed=0\nsinks=1\nsink=0,0,0,1\n",
+    )?;
+    show_weighted(
+        rt,
+        b"root=0,0\nbranch=20\nwire=2,2\nneed=0\nsinks=1\nsink=0,0,0,0\n",
+    )?;
+    show_weighted(
+        rt,
+        b"root=0,0\nbranch=20\nwire=2,2\nneed=0\nsinks=1\nsink=0,0,0,1001\n",
+    )?;
+    show_weighted(
+        rt,
+        b"root=0,0\nbranch=20\nwire=2,2\nneed=0\nsinks=1\nsink=0,0,0\n",
+    )?;
+    show_weighted(
+        rt,
+        b"root=0,0\nbranch=20\nwire=2,2\nneed=0\nsinks=1\nsink=0,0,0,1,1\n",
+    )?;
+    show_weighted(
+        rt,
+        b"root=0,0\nbranch=20\nwire=2,2\nneed=0\nsinks=1\nsink=40000001,0,0,1000\n",
+    )?;
+    show_weighted(
+        rt,
+        b"root=0,0\nbranch=20\nwire=2,2\nneed=0\nsinks=1\nsink=40000001,0,0,1001\n",
+    )?;
+    show(
+        rt,
+        b"root=0,0\nbranch=20\nwire=2,2\nneed=0\nsinks=1\nsink=0,0,0\n",
+    )?;
+    show_short(
+        rt,
+        b"root=0,0\nbranch=20\nwire=2,2\nneed=0\nsinks=1\nsink=0,0,0\n",
+    )
 }
 
 // The score of A's plan, of slack 0 and wire 32.
-fn score_a(alpha_1024ths: i64, beta_1024ths: i64, cap: i64) {
+fn score_a(rt: &HostRuntime, alpha_1024ths: i64, beta_1024ths: i64, cap: i64) -> io::Result<()> {
     show_score(
+        rt,
         b"root=0,0\nbranch=20\nwire=2,2\nneed=0\nsinks=3\nsink=10,0,100,1\nsink=4,6,60,1\nsink=10,10,70,1\n",
         b"slack=0\nwire=32\nsinks=3\nleaf=1,5\nleaf=2,5\nleaf=3,4\nnode=4,0,4,0\nnode=5,4,4,0\n",
         alpha_1024ths,
         beta_1024ths,
         cap,
-    );
+    )
 }
 
 // The score of one sink of slack 7 at the end of a wire of 7.
-fn score_pin(alpha_1024ths: i64, beta_1024ths: i64, cap: i64) {
+fn score_pin(rt: &HostRuntime, alpha_1024ths: i64, beta_1024ths: i64, cap: i64) -> io::Result<()> {
     show_score(
+        rt,
         b"root=0,0\nbranch=20\nwire=2,2\nneed=0\nsinks=1\nsink=3,4,21,1\n",
         b"slack=7\nwire=7\nsinks=1\nleaf=1,0\n",
         alpha_1024ths,
         beta_1024ths,
         cap,
-    );
+    )
 }
 
 // Request 8 of 02: -32, twice; zeros; 6, 7, 7 and -1/1024.
-fn show_scores() {
-    score_a(1024, 1024, 0);
-    score_a(0, 1024, 0);
-    score_a(1024, 0, 0);
-    score_a(0, 0, 0);
-    score_pin(1024, 1024, 8);
-    score_pin(1024, 0, 6);
-    score_pin(1024, 0, 7);
-    score_pin(1024, 0, 8);
-    score_pin(1, 1, 6);
+fn show_scores(rt: &HostRuntime) -> io::Result<()> {
+    score_a(rt, 1024, 1024, 0)?;
+    score_a(rt, 0, 1024, 0)?;
+    score_a(rt, 1024, 0, 0)?;
+    score_a(rt, 0, 0, 0)?;
+    score_pin(rt, 1024, 1024, 8)?;
+    score_pin(rt, 1024, 0, 6)?;
+    score_pin(rt, 1024, 0, 7)?;
+    score_pin(rt, 1024, 0, 8)?;
+    score_pin(rt, 1, 1, 6)
 }
 
 // Slacks of -40, at both ends, and one too late: 14,0,0, also where A is 0; then one past each end of A, B and the cap: 14,0,0.
-fn show_score_ends() {
+fn show_score_ends(rt: &HostRuntime) -> io::Result<()> {
     show_score(
+        rt,
         b"root=0,0\nbranch=20\nwire=2,2\nneed=-40\nsinks=3\nsink=0,0,0,1\nsink=0,0,0,1\nsink=0,0,0,1\n",
         b"slack=-40\nwire=0\nsinks=3\nleaf=1,5\nleaf=2,4\nleaf=3,5\nnode=4,0,0,0\nnode=5,4,0,0\n",
         0,
         1024,
         0,
-    );
+    )?;
     show_score(
+        rt,
         b"root=0,0\nbranch=20\nwire=2,2\nneed=0\nsinks=1\nsink=0,0,-1000000000000,1\n",
         b"slack=-1000000000000\nwire=0\nsinks=1\nleaf=1,0\n",
         1024,
         1024,
         1_000_000_000_000,
-    );
+    )?;
     show_score(
+        rt,
         b"root=0,0\nbranch=20\nwire=2,2\nneed=0\nsinks=1\nsink=0,0,1000000000000000,1\n",
         b"slack=1000000000000000\nwire=0\nsinks=1\nleaf=1,0\n",
         1024,
         1024,
         1_000_000_000_000,
-    );
-    score_late(1024, 1024);
-    score_late(0, 0);
-    score_a(-1, 0, 0);
-    score_a(1025, 0, 0);
-    score_a(0, -1, 0);
-    score_a(0, 1025, 0);
-    score_a(0, 0, -1);
-    score_a(0, 0, 1_000_000_000_001);
+    )?;
+    score_late(rt, 1024, 1024)?;
+    score_late(rt, 0, 0)?;
+    score_a(rt, -1, 0, 0)?;
+    score_a(rt, 1025, 0, 0)?;
+    score_a(rt, 0, -1, 0)?;
+    score_a(rt, 0, 1025, 0)?;
+    score_a(rt, 0, 0, -1)?;
+    score_a(rt, 0, 0, 1_000_000_000_001)
 }
 
-fn score_late(alpha_1024ths: i64, beta_1024ths: i64) {
+fn score_late(rt: &HostRuntime, alpha_1024ths: i64, beta_1024ths: i64) -> io::Result<()> {
     show_score(
+        rt,
         b"root=0,0\nbranch=20\nwire=2,2\nneed=0\nsinks=1\nsink=0,0,-1000000000001,1\n",
         b"slack=-1000000000001\nwire=0\nsinks=1\nleaf=1,0\n",
         alpha_1024ths,
         beta_1024ths,
         0,
-    );
+    )
 }
 
 // Judge's refusals go before: 2,1,1, 11,2,1 and 12,2,2.
-fn show_score_refusals() {
-    show_score(b"", b"", -1, -1, -1);
+fn show_score_refusals(rt: &HostRuntime) -> io::Result<()> {
+    show_score(rt, b"", b"", -1, -1, -1)?;
     show_score(
+        rt,
         b"root=0,0\nbranch=20\nwire=2,2\nneed=0\nsinks=3\nsink=10,0,100,1\nsink=4,6,60,1\nsink=10,10,70,1\n",
         b"slack=1\nwire=32\nsinks=3\nleaf=1,5\nleaf=2,5\nleaf=3,4\nnode=4,0,4,0\nnode=5,4,4,0\n",
         -1,
         -1,
         -1,
-    );
+    )?;
     show_score(
+        rt,
         b"root=0,0\nbranch=20\nwire=2,2\nneed=0\nsinks=3\nsink=10,0,100,1\nsink=4,6,60,1\nsink=10,10,70,1\n",
         b"slack=0\nwire=31\nsinks=3\nleaf=1,5\nleaf=2,5\nleaf=3,4\nnode=4,0,4,0\nnode=5,4,4,0\n",
         -1,
         -1,
         -1,
-    );
+    )
 }
 
 // A without a sink.
-fn show_a_without(sink: usize) {
+fn show_a_without(rt: &HostRuntime, sink: usize) -> io::Result<()> {
     show_without(
+        rt,
         b"root=0,0\nbranch=20\nwire=2,2\nneed=0\nsinks=3\nsink=10,0,100,1\nsink=4,6,60,1\nsink=10,10,70,1\n",
         b"slack=0\nwire=32\nsinks=3\nleaf=1,5\nleaf=2,5\nleaf=3,4\nnode=4,0,4,0\nnode=5,4,4,0\n",
         sink,
-    );
+    )
 }
 
 // Four sinks without one: branch point 5 hangs on the root, 6 with sinks 1 and 2 and 7 with sinks 3 and 4 on 5.
-fn show_four_without(sink: usize) {
+fn show_four_without(rt: &HostRuntime, sink: usize) -> io::Result<()> {
     show_without(
+        rt,
         b"root=0,0\nbranch=1\nwire=1,2\nneed=500\nsinks=4\nsink=1,0,10,7\nsink=2,0,20,8\nsink=3,0,30,9\nsink=4,0,40,10\n",
         b"slack=3\nwire=8\nsinks=4\nleaf=1,6\nleaf=2,6\nleaf=3,7\nleaf=4,7\nnode=5,0,1,1\nnode=6,5,1,0\nnode=7,5,3,0\n",
         sink,
-    );
+    )
 }
 
 // A without each sink; then two sinks without one, and four without one.
-fn show_deletions() {
-    show_a_without(1);
-    show_a_without(2);
-    show_a_without(3);
+fn show_deletions(rt: &HostRuntime) -> io::Result<()> {
+    show_a_without(rt, 1)?;
+    show_a_without(rt, 2)?;
+    show_a_without(rt, 3)?;
     show_without(
+        rt,
         b"root=0,0\nbranch=20\nwire=2,2\nneed=0\nsinks=2\nsink=10,0,100,1\nsink=4,6,60,1\n",
         b"slack=20\nwire=16\nsinks=2\nleaf=1,3\nleaf=2,3\nnode=3,0,4,0\n",
         1,
-    );
-    show_four_without(1);
-    show_four_without(3);
+    )?;
+    show_four_without(rt, 1)?;
+    show_four_without(rt, 3)
 }
 
 // One sink: 16 for it, 15 for any other number.
-fn show_one_without(sink: usize) {
+fn show_one_without(rt: &HostRuntime, sink: usize) -> io::Result<()> {
     show_without(
+        rt,
         b"root=0,0\nbranch=20\nwire=2,2\nneed=0\nsinks=1\nsink=4,6,60,1\n",
         b"slack=40\nwire=10\nsinks=1\nleaf=1,0\n",
         sink,
-    );
+    )
 }
 
 // A without sink 1 has 73 bytes, its listing 56: 6 where the net's output has one byte less, and both stay full of dots.
-fn show_short_net() {
+fn show_short_net(rt: &HostRuntime) -> io::Result<()> {
     let mut net_out = [46u8; 72];
     let mut listing_out = [46u8; 56];
     show_deletion(
+        rt,
         b"root=0,0\nbranch=20\nwire=2,2\nneed=0\nsinks=3\nsink=10,0,100,1\nsink=4,6,60,1\nsink=10,10,70,1\n",
         b"slack=0\nwire=32\nsinks=3\nleaf=1,5\nleaf=2,5\nleaf=3,4\nnode=4,0,4,0\nnode=5,4,4,0\n",
         1,
         &mut net_out,
         &mut listing_out,
-    );
-    io::write_all(STDOUT_FILENO, &net_out);
-    io::write_all(STDOUT_FILENO, &listing_out);
-    io::write_all(STDOUT_FILENO, b"\n");
+    )?;
+    rt.write_all(&net_out)?;
+    rt.write_all(&listing_out)?;
+    rt.write_all(b"\n")
 }
 
 // The same where the listing's output has one byte less.
-fn show_short_listing() {
+fn show_short_listing(rt: &HostRuntime) -> io::Result<()> {
     let mut net_out = [46u8; 73];
     let mut listing_out = [46u8; 55];
     show_deletion(
+        rt,
         b"root=0,0\nbranch=20\nwire=2,2\nneed=0\nsinks=3\nsink=10,0,100,1\nsink=4,6,60,1\nsink=10,10,70,1\n",
         b"slack=0\nwire=32\nsinks=3\nleaf=1,5\nleaf=2,5\nleaf=3,4\nnode=4,0,4,0\nnode=5,4,4,0\n",
         1,
         &mut net_out,
         &mut listing_out,
-    );
-    io::write_all(STDOUT_FILENO, &net_out);
-    io::write_all(STDOUT_FILENO, &listing_out);
-    io::write_all(STDOUT_FILENO, b"\n");
+    )?;
+    rt.write_all(&net_out)?;
+    rt.write_all(&listing_out)?;
+    rt.write_all(b"\n")
 }
 
 // 15 and 16 in their order, then 6; judge's refusals go before.
-fn show_deletion_refusals() {
-    show_a_without(0);
-    show_a_without(4);
-    show_one_without(1);
-    show_one_without(2);
-    show_short_net();
-    show_short_listing();
-    show_without(b"", b"", 0);
+fn show_deletion_refusals(rt: &HostRuntime) -> io::Result<()> {
+    show_a_without(rt, 0)?;
+    show_a_without(rt, 4)?;
+    show_one_without(rt, 1)?;
+    show_one_without(rt, 2)?;
+    show_short_net(rt)?;
+    show_short_listing(rt)?;
+    show_without(rt, b"", b"", 0)?;
     show_without(
+        rt,
         b"root=0,0\nbranch=20\nwire=2,2\nneed=0\nsinks=3\nsink=10,0,100,1\nsink=4,6,60,1\nsink=10,10,70,1\n",
         b"slack=1\nwire=32\nsinks=3\nleaf=1,5\nleaf=2,5\nleaf=3,4\nnode=4,0,4,0\nnode=5,4,4,0\n",
         0,
-    );
+    )?;
     show_without(
+        rt,
         b"root=0,0\nbranch=20\nwire=2,2\nneed=0\nsinks=3\nsink=10,0,100,1\nsink=4,6,60,1\nsink=10,10,70,1\n",
         b"slack=0\nwire=31\nsinks=3\nleaf=1,5\nleaf=2,5\nleaf=3,4\nnode=4,0,4,0\nnode=5,4,4,0\n",
         4,
-    );
+    )
 }
 
-fn main() {
-    show_lines();
-    show_positions();
+fn main(rt: HostRuntime) -> io::Result<()> {
+    show_lines(&rt)?;
+    show_positions(&rt)?;
     // Request 1 of 02: the edge above a branch point is the nearest; sink 2 is nearer than sink 1.
     show_listing(
+        &rt,
         b"root=0,0\nbranch=20\nwire=2,2\nneed=-40\nsinks=3\nsink=10,0,20,1\nsink=10,0,20,1\nsink=1,0,2,1\n",
-    );
+    )?;
     show_listing(
+        &rt,
         b"root=0,0\nbranch=20\nwire=2,2\nneed=-40\nsinks=3\nsink=10,0,20,1\nsink=0,10,20,1\nsink=1,10,22,1\n",
-    );
-    show_factors();
-    show_ranges();
-    show_nanometres();
-    show_short_trees();
-    show_weighted_trees();
-    show_weights();
-    show_scores();
-    show_score_ends();
-    show_score_refusals();
-    show_deletions();
-    show_deletion_refusals();
+    )?;
+    show_factors(&rt)?;
+    show_ranges(&rt)?;
+    show_nanometres(&rt)?;
+    show_short_trees(&rt)?;
+    show_weighted_trees(&rt)?;
+    show_weights(&rt)?;
+    show_scores(&rt)?;
+    show_score_ends(&rt)?;
+    show_score_refusals(&rt)?;
+    show_deletions(&rt)?;
+    show_deletion_refusals(&rt)
 }

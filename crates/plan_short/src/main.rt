@@ -4,23 +4,32 @@
 use console::answer::{COMPLAINT_LENGTH, print_plan_short};
 use console::stream::{Input, read_text, write_out};
 use formats::limits::{LISTING_LENGTH_LIMIT, NET_LENGTH_LIMIT};
-use libc::STDIN_FILENO;
 
-fn answer(net: &[u8]) {
+fn answer(rt: &HostRuntime, net: &[u8]) {
     let mut out = [0u8; LISTING_LENGTH_LIMIT];
     let mut err = [0u8; COMPLAINT_LENGTH];
     let lengths = print_plan_short(net, b"standard input", &mut out, &mut err);
     let printed = lengths.answer;
     let told = lengths.complaint;
-    write_out(&out[..printed], &err[..told]);
+    write_out(
+        &mut rt.stdout(),
+        &mut rt.stderr(),
+        &out[..printed],
+        &err[..told],
+    );
 }
 
-fn main() {
+fn main(rt: HostRuntime) {
     // one byte more than a net may have, so that a longer one is refused
     let mut net = [0u8; NET_LENGTH_LIMIT + 1];
-    match read_text(STDIN_FILENO, &mut net) {
-        Input::Ended { bytes } => answer(&net[..bytes]),
-        Input::Full => answer(&net),
-        Input::Failed => os::fail(b"standard input"),
+    match read_text(
+        &mut rt.stdin(),
+        "standard input",
+        &mut net,
+        &mut rt.stderr(),
+    ) {
+        Input::Ended { bytes } => answer(&rt, &net[..bytes]),
+        Input::Full => answer(&rt, &net),
+        Input::Failed => {}
     }
 }

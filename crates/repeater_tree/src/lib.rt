@@ -1,4 +1,4 @@
-// The library for callers in C and Rust: the plans, judge, the score and the deletion of a pin on lent bytes, each figure through a reference of its own.
+// The library for callers in C and Rust: the plans, judge, the score and the deletion of a pin on lent bytes, each figure through a reference of its own. `repeater_tree_c` exports it.
 #![tactic(auto)]
 
 ghost use Rattle.std.specs.Prelude.{◌≡◌, length};
@@ -54,8 +54,7 @@ fn give(
 }
 
 // Plans a net.
-#[unsafe(no_mangle)]
-pub extern "C" fn repeater_tree_plan(
+pub fn repeater_tree_plan(
     net: &[u8],
     out: &mut [u8],
     text: &mut u8,
@@ -72,8 +71,7 @@ pub extern "C" fn repeater_tree_plan(
 }
 
 // Plans the short tree of a net.
-#[unsafe(no_mangle)]
-pub extern "C" fn repeater_tree_plan_short(
+pub fn repeater_tree_plan_short(
     net: &[u8],
     out: &mut [u8],
     text: &mut u8,
@@ -90,8 +88,7 @@ pub extern "C" fn repeater_tree_plan_short(
 }
 
 // Plans the tree of a net by its switching weights.
-#[unsafe(no_mangle)]
-pub extern "C" fn repeater_tree_plan_weighted(
+pub fn repeater_tree_plan_weighted(
     net: &[u8],
     out: &mut [u8],
     text: &mut u8,
@@ -108,8 +105,7 @@ pub extern "C" fn repeater_tree_plan_weighted(
 }
 
 // Judges a listing. The number of the refusal is returned, 0 where nothing is refused.
-#[unsafe(no_mangle)]
-pub extern "C" fn repeater_tree_judge(
+pub fn repeater_tree_judge(
     net: &[u8],
     listing: &[u8],
     text: &mut u8,
@@ -146,8 +142,7 @@ pub extern "C" fn repeater_tree_judge(
 }
 
 // Scores a listing by the router's weights. The number of the refusal is returned, 0 where nothing is refused.
-#[unsafe(no_mangle)]
-pub extern "C" fn repeater_tree_score(
+pub fn repeater_tree_score(
     net: &[u8],
     listing: &[u8],
     alpha_1024ths: i64,
@@ -177,8 +172,7 @@ pub extern "C" fn repeater_tree_score(
 }
 
 // Deletes a pin from a net and from an accepted listing over it. The number of the refusal is returned, 0 where nothing is refused.
-#[unsafe(no_mangle)]
-pub extern "C" fn repeater_tree_delete_pin(
+pub fn repeater_tree_delete_pin(
     net: &[u8],
     listing: &[u8],
     sink: usize,

@@ -7,7 +7,6 @@ use native.Mathlib.Omega.{arith}
 use lib.ListN.{get_or}
 use lib.IntN.{ℤ, pos}
 use Rattle.tree.specs.Net.{Net, size}
-use Rattle.tree.specs.Tree.{Tree}
 use Rattle.tree.specs.Limits.{InRange}
 use Rattle.formats.specs.Line.{line_text}
 use Rattle.formats.specs.Outcome.{Outcome, value, refused}

@@ -21,7 +21,7 @@ use Rattle.formats.proofs.Laws.Numbers.Decimal.{show_nat-length}
 use Rattle.formats.proofs.Laws.Listings.ListingLengths.{line1_short}
 use Rattle.formats.proofs.Laws.Listings.ListingWriting.{within_writable}
 use Rattle.operations.specs.Answers.{Judgement}
-use Rattle.console.specs.Words.{children_words, words, text_name, line_mark, complaint}
+use Rattle.console.specs.Words.{children_words, words, text_name, line_mark}
 use Rattle.console.specs.Printing.{refused_key, best_key, refusal_text, measures_text, Prints, answer_room}
 use Rattle.console.specs.Inner.Rooms.{words_room, mark_room, NamesFit}
 
