@@ -28,7 +28,7 @@ fn folder() -> PathBuf {
 /// The linker's own words would not say where the archive comes from.
 fn missing(archive: &Path) -> ! {
     eprintln!("the planner's archive is missing: {}", archive.display());
-    eprintln!("run `rt staticlib repeater_tree` at the repository's root,");
+    eprintln!("run `tools/build` at the repository's root,");
     eprintln!("or set REPEATER_TREE_LIB_DIR to the folder that has librepeater_tree.a");
     exit(1)
 }

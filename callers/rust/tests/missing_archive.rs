@@ -15,5 +15,5 @@ fn the_build_says_what_to_run() {
         .unwrap();
     assert!(!built.status.success());
     let told = String::from_utf8_lossy(&built.stderr);
-    assert!(told.contains("`rt staticlib repeater_tree`"), "{told}");
+    assert!(told.contains("`tools/build`"), "{told}");
 }

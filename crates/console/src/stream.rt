@@ -1,6 +1,9 @@
-// A text in, and one out. No contract can say which bytes go through a descriptor.
+// A text in, and one out. Which bytes a file, a pipe or a terminal gives or takes no contract can say; of a reader and a writer whose bytes are known, as those
+// over memory, the contracts do.
+ghost use Rattle.std.specs.Prelude.{◌≤◌, IfSome, length, take};
+ghost use Rattle.std.specs.Io.KnownBytes.{Appends};
+ghost use Rattle.console.specs.Streams.{IsRead};
 ghost use Rattle.console.specs.Inner.Rooms.{FitsIn};
-ghost use Rattle.std.specs.Prelude.{◌≤◌, length};
 
 use std::fs;
 use std::io::{Error, ErrorKind, Read, Write};
@@ -48,7 +51,8 @@ pub fn read_text<R: Read, E: Write>(
     text: &mut [u8],
     err: &mut E,
 ) -> Input
-    ensures { FitsIn (length text.old) result }
+    ensures fits { FitsIn (length text.old) result }
+    ensures read { IfSome (R.remaining input.old) (λ left. IsRead left text.new result) }
 {
     let mut at = 0;
     let mut interrupted = 0;
@@ -86,7 +90,8 @@ pub fn read_file<F: Files, E: Write>(files: &F, name: &str, text: &mut [u8], err
 
 // The answer goes out by one write: nothing is written after a write that took only a part. What is given is how many of its bytes went out, as the system tells.
 fn write_answer<O: Write, E: Write>(out: &mut O, err: &mut E, answer: &[u8]) -> usize
-    ensures { result ≤ length answer.now }
+    ensures fits { result ≤ length answer.now }
+    ensures written { Appends (O.contents out.old) (O.contents out.new) (take result answer.now) }
 {
     match out.write(answer) {
         Ok(sent) => {
@@ -109,7 +114,8 @@ pub fn write_out<O: Write, E: Write>(
     answer: &[u8],
     complaint: &[u8],
 ) -> usize
-    ensures { result ≤ length answer.now }
+    ensures fits { result ≤ length answer.now }
+    ensures written { Appends (O.contents out.old) (O.contents out.new) (take result answer.now) }
 {
     let sent = write_answer(out, err, answer);
     let _ = err.write_all(complaint);

@@ -19,7 +19,7 @@ use std::fs;
 use std::io::Result;
 use std::path::Path;
 
-const LIBRARY: &str = "crates/repeater_tree/src/lib.rt";
+const LIBRARY: &str = "crates/repeater_tree_c/src/lib.rt";
 const HEADER: &str = "callers/c/repeater_tree.h";
 const CALLS: &str = "callers/rust/src/calls.rs";
 const WRAPPER: &str = "callers/rust/src/lib.rs";

@@ -79,7 +79,7 @@ fn told(differences: Vec<String>, words: &str) {
 fn the_sources_agree() {
     let report = compare(&sources());
     assert_eq!(report.differences, [""; 0]);
-    let exported = sources().library.matches("#[no_mangle]").count();
+    let exported = sources().library.matches("#[unsafe(no_mangle)]").count();
     assert_eq!(report.functions, exported);
     assert!(report.limits >= 8);
     assert_eq!(report.places, 10);
@@ -126,7 +126,7 @@ fn another_order_is_told() {
     );
     told(
         swapped,
-        "has `wire: *mut u64` where crates/repeater_tree/src/lib.rt has `slack: *mut i64`",
+        "has `wire: *mut u64` where crates/repeater_tree_c/src/lib.rt has `slack: *mut i64`",
     );
     let swapped = planted(
         calls,
@@ -175,7 +175,7 @@ fn another_order_of_a_deletion_is_told() {
     );
     told(
         behind,
-        "has `net_out: *mut u8` where crates/repeater_tree/src/lib.rt has `sink: usize`",
+        "has `net_out: *mut u8` where crates/repeater_tree_c/src/lib.rt has `sink: usize`",
     );
 }
 
@@ -211,7 +211,7 @@ fn another_type_is_told() {
     );
     told(
         planted(calls, "cap: i64", "cap: u64"),
-        "`cap: u64` where crates/repeater_tree/src/lib.rt has `cap: i64`",
+        "`cap: u64` where crates/repeater_tree_c/src/lib.rt has `cap: i64`",
     );
     told(
         planted(calls, "score: *mut f64", "score: *mut f32"),
@@ -219,7 +219,7 @@ fn another_type_is_told() {
     );
     told(
         planted(calls, "sink: usize", "sink: u32"),
-        "`sink: u32` where crates/repeater_tree/src/lib.rt has `sink: usize`",
+        "`sink: u32` where crates/repeater_tree_c/src/lib.rt has `sink: usize`",
     );
     told(
         planted(header, "int64_t cap", "int64_t *cap"),
@@ -231,11 +231,11 @@ fn another_type_is_told() {
     );
     told(
         planted(header, "double *score", "float *score"),
-        "`score: *mut float` where crates/repeater_tree/src/lib.rt has `score: *mut f64`",
+        "`score: *mut float` where crates/repeater_tree_c/src/lib.rt has `score: *mut f64`",
     );
     told(
         planted(header, "size_t sink", "int64_t sink"),
-        "`sink: i64` where crates/repeater_tree/src/lib.rt has `sink: usize`",
+        "`sink: i64` where crates/repeater_tree_c/src/lib.rt has `sink: usize`",
     );
     told(
         planted(header, "size_t sink", "size_t *sink"),
@@ -243,7 +243,7 @@ fn another_type_is_told() {
     );
     told(
         planted_behind(DELETION, library, "sink: usize", "sink: &usize"),
-        "`sink: usize` where crates/repeater_tree/src/lib.rt has `sink: *const usize`",
+        "`sink: usize` where crates/repeater_tree_c/src/lib.rt has `sink: *const usize`",
     );
     told(
         planted_behind(DELETION, library, "net_out: &mut [u8]", "net_out: &[u8]"),
