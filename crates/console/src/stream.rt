@@ -23,8 +23,16 @@ pub enum Input {
     Failed,
 }
 
-// What failed and why, in a line on standard error: the system's words, without the error's number that std puts after them.
-fn tell_failure<E: Write>(err: &mut E, name: &str, error: Error) {
+// What failed and why, in a line on standard error.
+fn tell<E: Write>(err: &mut E, name: &[u8], message: &[u8]) {
+    let _ = err.write_all(name);
+    let _ = err.write_all(b": ");
+    let _ = err.write_all(message);
+    let _ = err.write_all(b"\n");
+}
+
+// The same of an error: the system's words, without the error's number that std puts after them.
+fn tell_failure<E: Write>(err: &mut E, name: &[u8], error: Error) {
     let mut words = [0u8; WORDS_LENGTH];
     let mut rest: &mut [u8] = &mut words;
     let _ = write!(rest, "{error}");
@@ -37,17 +45,14 @@ fn tell_failure<E: Write>(err: &mut E, name: &str, error: Error) {
         Some((front, _)) => front,
         None => told,
     };
-    let _ = err.write_all(name.as_bytes());
-    let _ = err.write_all(b": ");
-    let _ = err.write_all(message.as_bytes());
-    let _ = err.write_all(b"\n");
+    tell(err, name, message.as_bytes());
 }
 
 // Reads a text to its end. No read follows the one that tells the end, so that at a terminal one ^D is enough. Where it could not be read, that is told on
 // standard error by the text's name.
 pub fn read_text<R: Read, E: Write>(
     input: &mut R,
-    name: &str,
+    name: &[u8],
     text: &mut [u8],
     err: &mut E,
 ) -> Input
@@ -72,17 +77,29 @@ pub fn read_text<R: Read, E: Write>(
     Input::Full
 }
 
-// Reads a file to its end. Where it could not be read, that is told on standard error.
-pub fn read_file<F: Files, E: Write>(files: &F, name: &str, text: &mut [u8], err: &mut E) -> Input
+// Reads a file to its end. Where it could not be read, that is told on standard error. The library opens files by names in UTF-8 alone.
+pub fn read_file<F: Files, E: Write>(files: &F, name: &[u8], text: &mut [u8], err: &mut E) -> Input
     ensures { FitsIn (length text.old) result }
 {
-    match fs::open(files, name) {
+    match std::str::from_utf8(name) {
+        Ok(path) => read_opened(files, path, text, err),
+        Err(_) => {
+            tell(err, name, b"the name is not UTF-8");
+            Input::Failed
+        }
+    }
+}
+
+fn read_opened<F: Files, E: Write>(files: &F, path: &str, text: &mut [u8], err: &mut E) -> Input
+    ensures { FitsIn (length text.old) result }
+{
+    match fs::open(files, path) {
         Ok(opened) => {
             let mut file = opened;
-            read_text(&mut file, name, text, err)
+            read_text(&mut file, path.as_bytes(), text, err)
         }
         Err(error) => {
-            tell_failure(err, name, error);
+            tell_failure(err, path.as_bytes(), error);
             Input::Failed
         }
     }
@@ -101,7 +118,7 @@ fn write_answer<O: Write, E: Write>(out: &mut O, err: &mut E, answer: &[u8]) -> 
             sent
         }
         Err(error) => {
-            tell_failure(err, "standard output", error);
+            tell_failure(err, b"standard output", error);
             0
         }
     }

@@ -23,7 +23,7 @@ fn answer(rt: &HostRuntime, net: &[u8], listing: &[u8]) {
 fn judge_over(rt: &HostRuntime, net: &[u8]) {
     // one byte more than a listing may have, so that a longer one is refused
     let mut listing = [0u8; LISTING_LENGTH_LIMIT + 1];
-    match read_file(rt, "tree.txt", &mut listing, &mut rt.stderr()) {
+    match read_file(rt, b"tree.txt", &mut listing, &mut rt.stderr()) {
         Input::Ended { bytes } => answer(rt, net, &listing[..bytes]),
         Input::Full => answer(rt, net, &listing),
         Input::Failed => {}
@@ -33,7 +33,7 @@ fn judge_over(rt: &HostRuntime, net: &[u8]) {
 fn main(rt: HostRuntime) {
     // one byte more than a net may have, so that a longer one is refused
     let mut net = [0u8; NET_LENGTH_LIMIT + 1];
-    match read_file(&rt, "net.txt", &mut net, &mut rt.stderr()) {
+    match read_file(&rt, b"net.txt", &mut net, &mut rt.stderr()) {
         Input::Ended { bytes } => judge_over(&rt, &net[..bytes]),
         Input::Full => judge_over(&rt, &net),
         Input::Failed => {}

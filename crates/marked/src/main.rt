@@ -168,7 +168,7 @@ fn show_without(rt: &HostRuntime, net: &[u8], listing: &[u8], sink: usize) -> io
     show_deletion(rt, net, listing, sink, &mut net_out, &mut listing_out)
 }
 
-fn show_file(rt: &HostRuntime, name: &str) -> io::Result<()> {
+fn show_file(rt: &HostRuntime, name: &[u8]) -> io::Result<()> {
     let mut net = [0u8; NET_LENGTH_LIMIT + 1];
     match read_file(rt, name, &mut net, &mut rt.stderr()) {
         Input::Ended { bytes } => show(rt, &net[..bytes]),
@@ -206,7 +206,7 @@ fn show_lines(rt: &HostRuntime) -> io::Result<()> {
         b"root=0,0\nbranch=20\nwire=2,2\nneed=0\nsinks=513\nsink=10,0,100,1\nsink=4,6,60,1\nsink=10,10,70,1\n",
     )?;
     // 512 sinks pass.
-    show_file(rt, "sinks512.txt")
+    show_file(rt, b"sinks512.txt")
 }
 
 // Positions at their limit and beyond, with the pin limit of 02's request 2, in the nanometres of its request 5.
@@ -331,7 +331,7 @@ fn show_ranges(rt: &HostRuntime) -> io::Result<()> {
 // 02's request 5: long texts, and "Nothing is lost".
 fn show_nanometres(rt: &HostRuntime) -> io::Result<()> {
     // 512 sinks with the longest numbers of all ranges.
-    show_file(rt, "longest512.txt")?;
+    show_file(rt, b"longest512.txt")?;
     // A net, and 1,000 times that net.
     show_listing(
         rt,

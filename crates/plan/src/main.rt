@@ -24,7 +24,7 @@ fn main(rt: HostRuntime) {
     let mut net = [0u8; NET_LENGTH_LIMIT + 1];
     match read_text(
         &mut rt.stdin(),
-        "standard input",
+        b"standard input",
         &mut net,
         &mut rt.stderr(),
     ) {

@@ -327,7 +327,7 @@ fn a_function_more_is_told() {
     };
     let mut rattle = sources();
     let more = declared(&rattle.library);
-    rattle.library += &format!("#[no_mangle]\npub extern \"C\" {more}\n{{\n}}\n");
+    rattle.library += &format!("#[unsafe(no_mangle)]\npub extern \"C\" {more}\n{{\n}}\n");
     let report = compare(&rattle);
     assert_eq!(report.functions, compare(&sources()).functions + 1);
     let differences = report.differences;
