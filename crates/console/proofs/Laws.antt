@@ -3,3 +3,4 @@ pub mod Rooms
 pub mod Judgements
 pub mod Answers
 pub mod OneAnswer
+pub mod Programs

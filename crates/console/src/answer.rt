@@ -1,21 +1,15 @@
 // What the programs print, for every input: the answer for standard output, and a refusal in words for standard error.
-ghost use Rattle.std.specs.Prelude.{◌≡◌, List, ℕ, ◌+◌, ◌≤◌, length};
-ghost use Rattle.formats.specs.Outcome.{Outcome};
+ghost use Rattle.std.specs.Prelude.{◌+◌, ◌≤◌, length};
 ghost use Rattle.formats.specs.Refusals.{told};
-ghost use Rattle.operations.specs.Answers.{Written, plan_of, bytes_of, overwritten, plan_answer, judge_of};
-ghost use Rattle.short_tree.specs.SecondPlan.{short_of};
-ghost use Rattle.weighted_tree.specs.ThirdPlan.{weighted_of};
+ghost use Rattle.operations.specs.Answers.{judge_of};
 ghost use Rattle.console.specs.Words.{complaint};
 ghost use Rattle.console.specs.Printing.{refusal_text, plan_printed, judge_printed, plan_complaint, judge_complaint, Prints, answer_room, complaint_room};
 
 use crate::complain::put_complaint;
 use crate::lines::{put_measures, put_refusal};
-use first_plan::plan::plan;
 use formats::refusal::Refusal;
 use judging::judge::judge;
-use operations::answers::{JudgeAnswer, PlanAnswer};
-use short_tree::plan_short::plan_short;
-use weighted_tree::plan_weighted::plan_weighted;
+use operations::planner::Planner;
 
 // Room for every refusal and all measures, and for every complaint where no name has more than 128 bytes.
 pub const ANSWER_LENGTH: usize = 128;
@@ -23,7 +17,7 @@ pub const ANSWER_LENGTH: usize = 128;
 pub const COMPLAINT_LENGTH: usize = 256;
 
 // How many bytes of the two buffers are the answer and the complaint.
-#[derive(Clone, Copy)]
+#[derive(Clone, Copy, Debug, PartialEq, Eq)]
 pub struct Lengths {
     pub answer: usize,
     pub complaint: usize,
@@ -47,52 +41,20 @@ fn print_refusal(
     Lengths { answer, complaint }
 }
 
-// What a plan has answered, once it has left its listing in `out`: the listing stays there, a refusal goes to the two buffers.
-fn print_planned(answer: PlanAnswer, name: &[u8], out: &mut [u8], err: &mut [u8]) -> Lengths
+// Plans a net. The answer goes to the start of `out`, which is also the room for the listing, the complaint to the start of `err`.
+pub fn print_plan<P: Planner>(net: &[u8], name: &[u8], out: &mut [u8], err: &mut [u8]) -> Lengths
     requires out { answer_room ≤ length out.old }
     requires err { length name.now + complaint_room ≤ length err.old }
-    ensures { (o : Outcome Written) (before : List ℕ) → answer ≡ plan_answer o → out.old ≡ overwritten (bytes_of o) before → Prints before (plan_printed o) result.answer out.new × Prints err.old (plan_complaint name.now o) result.complaint err.new }
+    ensures answer { Prints out.old (plan_printed (P.answers net.now (length out.old))) result.answer out.new }
+    ensures complaint { Prints err.old (plan_complaint name.now (P.answers net.now (length out.old))) result.complaint err.new }
 {
-    match answer {
-        PlanAnswer::Planned { slack, wire, bytes } => Lengths {
-            answer: bytes,
+    match P::plan(net, out) {
+        Ok(planned) => Lengths {
+            answer: planned.bytes,
             complaint: 0,
         },
-        PlanAnswer::PlanRefused { refusal } => print_refusal(refusal, name, b"", out, err),
+        Err(refusal) => print_refusal(refusal, name, b"", out, err),
     }
-}
-
-// Plans a net. The answer goes to the start of `out`, which is also the room for the listing, the complaint to the start of `err`.
-pub fn print_plan(net: &[u8], name: &[u8], out: &mut [u8], err: &mut [u8]) -> Lengths
-    requires out { answer_room ≤ length out.old }
-    requires err { length name.now + complaint_room ≤ length err.old }
-    ensures answer { Prints out.old (plan_printed (plan_of net.now (length out.old))) result.answer out.new }
-    ensures complaint { Prints err.old (plan_complaint name.now (plan_of net.now (length out.old))) result.complaint err.new }
-{
-    let answer = plan(net, out);
-    print_planned(answer, name, out, err)
-}
-
-// The same for the short tree.
-pub fn print_plan_short(net: &[u8], name: &[u8], out: &mut [u8], err: &mut [u8]) -> Lengths
-    requires out { answer_room ≤ length out.old }
-    requires err { length name.now + complaint_room ≤ length err.old }
-    ensures answer { Prints out.old (plan_printed (short_of net.now (length out.old))) result.answer out.new }
-    ensures complaint { Prints err.old (plan_complaint name.now (short_of net.now (length out.old))) result.complaint err.new }
-{
-    let answer = plan_short(net, out);
-    print_planned(answer, name, out, err)
-}
-
-// The same for the tree by switching weights.
-pub fn print_plan_weighted(net: &[u8], name: &[u8], out: &mut [u8], err: &mut [u8]) -> Lengths
-    requires out { answer_room ≤ length out.old }
-    requires err { length name.now + complaint_room ≤ length err.old }
-    ensures answer { Prints out.old (plan_printed (weighted_of net.now (length out.old))) result.answer out.new }
-    ensures complaint { Prints err.old (plan_complaint name.now (weighted_of net.now (length out.old))) result.complaint err.new }
-{
-    let answer = plan_weighted(net, out);
-    print_planned(answer, name, out, err)
 }
 
 // Judges a listing. The answer goes to the start of `out`, the complaint to the start of `err`.
@@ -110,16 +72,10 @@ pub fn print_judgement(
     ensures complaint { Prints err.old (judge_complaint net_name.now listing_name.now (judge_of net.now listing.now)) result.complaint err.new }
 {
     match judge(net, listing) {
-        JudgeAnswer::Judged { slack, wire, best } => Lengths {
-            answer: put_measures(out, slack, wire, best),
+        Ok(judged) => Lengths {
+            answer: put_measures(out, judged),
             complaint: 0,
         },
-        JudgeAnswer::JudgeRefused { refusal } => print_refusal(
-            refusal,
-            net_name,
-            listing_name,
-            out,
-            err,
-        ),
+        Err(refusal) => print_refusal(refusal, net_name, listing_name, out, err),
     }
 }

@@ -4,5 +4,6 @@
 pub mod answer;
 mod complain;
 mod lines;
+pub mod program;
 pub mod stream;
 mod words;

@@ -15,14 +15,6 @@ const INTERRUPTIONS: usize = 1_000;
 // Room for the system's words for any error, with its number.
 const WORDS_LENGTH: usize = 256;
 
-// How the reading of a text went: it ended after so many bytes, it filled its room before any end was seen, or a read failed.
-#[derive(Clone, Copy)]
-pub enum Input {
-    Ended { bytes: usize },
-    Full,
-    Failed,
-}
-
 // What failed and why, in a line on standard error.
 fn tell<E: Write>(err: &mut E, name: &[u8], message: &[u8]) {
     let _ = err.write_all(name);
@@ -48,14 +40,15 @@ fn tell_failure<E: Write>(err: &mut E, name: &[u8], error: Error) {
     tell(err, name, message.as_bytes());
 }
 
-// Reads a text to its end. No read follows the one that tells the end, so that at a terminal one ^D is enough. Where it could not be read, that is told on
-// standard error by the text's name.
+// Reads a text to its end, or as much of it as `text` has room for: so many bytes are given. No read follows the one that tells the end, so that at a terminal one
+// ^D is enough. Where it could not be read there are none, and that is told on standard error by the text's name. The loop is a while: how often it turns the
+// reader decides.
 pub fn read_text<R: Read, E: Write>(
     input: &mut R,
     name: &[u8],
     text: &mut [u8],
     err: &mut E,
-) -> Input
+) -> Option<usize>
     ensures fits { FitsIn (length text.old) result }
     ensures read { IfSome (R.remaining input.old) (λ left. IsRead left text.new result) }
 {
@@ -63,34 +56,44 @@ pub fn read_text<R: Read, E: Write>(
     let mut interrupted = 0;
     while at < text.len() {
         match input.read(&mut text[at..]) {
-            Ok(0) => return Input::Ended { bytes: at },
+            Ok(0) => return Some(at),
             Ok(got) => at += got,
             Err(error) => {
                 interrupted += 1;
                 if error.kind() != ErrorKind::Interrupted || interrupted == INTERRUPTIONS {
                     tell_failure(err, name, error);
-                    return Input::Failed;
+                    return None;
                 }
             }
         }
     }
-    Input::Full
+    Some(at)
 }
 
 // Reads a file to its end. Where it could not be read, that is told on standard error. The library opens files by names in UTF-8 alone.
-pub fn read_file<F: Files, E: Write>(files: &F, name: &[u8], text: &mut [u8], err: &mut E) -> Input
+pub fn read_file<F: Files, E: Write>(
+    files: &F,
+    name: &[u8],
+    text: &mut [u8],
+    err: &mut E,
+) -> Option<usize>
     ensures { FitsIn (length text.old) result }
 {
     match std::str::from_utf8(name) {
         Ok(path) => read_opened(files, path, text, err),
         Err(_) => {
             tell(err, name, b"the name is not UTF-8");
-            Input::Failed
+            None
         }
     }
 }
 
-fn read_opened<F: Files, E: Write>(files: &F, path: &str, text: &mut [u8], err: &mut E) -> Input
+fn read_opened<F: Files, E: Write>(
+    files: &F,
+    path: &str,
+    text: &mut [u8],
+    err: &mut E,
+) -> Option<usize>
     ensures { FitsIn (length text.old) result }
 {
     match fs::open(files, path) {
@@ -100,7 +103,7 @@ fn read_opened<F: Files, E: Write>(files: &F, path: &str, text: &mut [u8], err: 
         }
         Err(error) => {
             tell_failure(err, path.as_bytes(), error);
-            Input::Failed
+            None
         }
     }
 }

@@ -1,2 +1,3 @@
 -- What serves the contracts of inner functions.
 pub mod Choice
+pub mod Places

@@ -30,7 +30,7 @@ fn follow_parent(
 {
     let level = levels[parents[u]] + 1;
     if levels[u] < level {
-        let least = Time::of(slacks[u]).minus(branch);
+        let least = Time::of(slacks[u]) - branch;
         levels[u] = level;
         slacks[u] = least.attoseconds();
     }
@@ -51,12 +51,13 @@ fn lower_below(
     ensures { (us : List ℕ) (j : ℕ) (D : ℕ → ℕ) (ls : List ℕ) (ss : List ℤ) → Chained m us below.now → j < m → get_or us j 0 ≡ v → Deepens parents.now us m j ls D → Lowered us m D branch.0 ls ss j levels.old slacks.old → Lowered us m D branch.0 ls ss 0 levels.new slacks.new }
 {
     let mut at = below[v];
-    let mut left = m;
-    while at != 0 && 0 < left {
+    for _ in 0..m {
+        if at == 0 {
+            return;
+        }
         let next = below[at];
         follow_parent(branch, parents, levels, slacks, at);
         at = next;
-        left -= 1;
     }
 }
 
@@ -67,12 +68,13 @@ fn hand_up(parents: &[usize], slacks: &mut [i64], v: usize, left: usize, least: 
     ensures { Falling (λ u. get_or slacks.old u (pos 0)) (way_up parents.now left v) → ((u : ℕ) → count u (way_up parents.now left v) ≤ 1) → Raised (way_up parents.now left v) least.0 slacks.old slacks.new }
 {
     let mut at = v;
-    let mut more = left;
-    while 0 < more && least.is_less(Time::of(slacks[at])) {
+    for _ in 0..left {
+        if Time::of(slacks[at]) <= least {
+            return;
+        }
         let up = parents[at];
         slacks[at] = least.attoseconds();
         at = up;
-        more -= 1;
     }
 }
 
@@ -93,11 +95,9 @@ fn hang_new(
 {
     let level = levels[v];
     let deeper = level + 1;
-    let least = Time::of(slacks[v]).minus(branch);
+    let least = Time::of(slacks[v]) - branch;
     levels[s] = deeper;
-    slacks[s] = Time::of(own[s])
-        .minus(branch.times(level as u64))
-        .attoseconds();
+    slacks[s] = (Time::of(own[s]) - branch * level as u64).attoseconds();
     levels[b] = level;
     slacks[b] = least.attoseconds();
 }
@@ -118,7 +118,7 @@ fn lower(
     ensures { (us : List ℕ) (j : ℕ) (D : ℕ → ℕ) → Chained m us below.now → j < m → get_or us j 0 ≡ v → DeepensUnder parents.now us n m j levels.old D → Lowered us m D branch.0 levels.old slacks.old 0 levels.new slacks.new }
 {
     levels[v] = levels[v] + 1;
-    slacks[v] = Time::of(slacks[v]).minus(branch).attoseconds();
+    slacks[v] = (Time::of(slacks[v]) - branch).attoseconds();
     if n < v {
         lower_below(branch, parents, below, m, v, levels, slacks);
     }
@@ -129,7 +129,7 @@ fn worst_with(slacks: &mut [i64], least: Time)
     requires { 0 < length slacks.old }
     ensures { slacks.new ≡ set slacks.old 0 (min_ℤ (get_or slacks.old 0 (pos 0)) least.0) }
 {
-    slacks[0] = Time::of(slacks[0]).least(least).attoseconds();
+    slacks[0] = Time::of(slacks[0]).min(least).attoseconds();
 }
 
 // Insertion k + 1 splits the edge to v for sink s: the numbers of the enlarged tree are gathered. `parents` and `below` are those from before the split.
@@ -151,7 +151,7 @@ pub fn regather(
     ensures gathered { (N : Net) → Ready N branch.0 n own.now → HoldsSoFar N k parents.now below.now levels.old slacks.old → s ≡ next_sink N k → SplitsNext N k v → Gathered N (suc k) slacks.new }
 {
     let left = levels[v] - 1;
-    let least = Time::of(slacks[v]).minus(branch);
+    let least = Time::of(slacks[v]) - branch;
     hang_new(own, branch, levels, slacks, v, s, n + k + 1);
     lower(branch, n, parents, below, 2 * k + 1, v, levels, slacks);
     hand_up(parents, slacks, parents[v], left, least);

@@ -10,18 +10,19 @@ ghost use Rattle.tree.specs.Inner.Insertion.{Ready, Lined, Placed, HoldsSoFar};
 
 use crate::choose::choose;
 use crate::gather::regather;
+use crate::pins::Pins;
+use crate::scoring::Scoring;
 use crate::upward::{put_before, write_out};
 use quantities::time::Time;
 use tree::places::clear;
 use tree::split::split_edge;
 
 // Insertion k + 1: the edges are tried from the gathered numbers, those of the enlarged tree are gathered, and the chosen edge is split.
+// The four arrays of the tree so far are lent one by one, and not as a struct: each step reads some of them while it writes others.
 fn insert_next(
     branch: Time,
-    n: usize,
     k: usize,
-    xs: &[i64],
-    ys: &[i64],
+    pins: Pins,
     own: &[i64],
     sinks: &[usize],
     levels: &mut [usize],
@@ -29,12 +30,13 @@ fn insert_next(
     parents: &mut [usize],
     below: &mut [usize],
 )
-    requires ready { (N : Net) × (Ready N branch.0 n own.now × Lined N n sinks.now × Placed N n xs.now ys.now × HoldsSoFar N k parents.old below.old levels.old slacks.old) }
-    requires k_bound { (suc k < n) × (2 * n ≤ length levels.old) × (2 * n ≤ length slacks.old) × (2 * n ≤ length parents.old) × (2 * n ≤ length below.old) }
-    ensures { (N : Net) → Ready N branch.0 n own.now → Lined N n sinks.now → Placed N n xs.now ys.now → HoldsSoFar N k parents.old below.old levels.old slacks.old → HoldsSoFar N (suc k) parents.new below.new levels.new slacks.new }
+    requires ready { (N : Net) × (Ready N branch.0 pins.n own.now × Lined N pins.n sinks.now × Placed N pins.n pins.xs.now pins.ys.now × HoldsSoFar N k parents.old below.old levels.old slacks.old) }
+    requires k_bound { (suc k < pins.n) × (2 * pins.n ≤ length levels.old) × (2 * pins.n ≤ length slacks.old) × (2 * pins.n ≤ length parents.old) × (2 * pins.n ≤ length below.old) }
+    ensures { (N : Net) → Ready N branch.0 pins.entry.n own.now → Lined N pins.entry.n sinks.now → Placed N pins.entry.n pins.entry.xs.now pins.entry.ys.now → HoldsSoFar N k parents.old below.old levels.old slacks.old → HoldsSoFar N (suc k) parents.new below.new levels.new slacks.new }
 {
     let s = sinks[k + 1];
-    let v = choose(n, k, xs, ys, sinks, slacks, branch, s);
+    let v = choose(k, pins, sinks, Scoring { slacks, branch }, s);
+    let n = pins.n;
     regather(branch, n, k, own, parents, below, levels, slacks, v, s);
     put_before(below, parents[v], s, n + k + 1);
     split_edge(parents, n + k + 1, v, s);
@@ -68,9 +70,7 @@ fn insert_first(
 // All sinks go in, in their order. The slacks of the sinks are left in `slacks`, and in `levels`, which has the edges above each vertex meanwhile, the order from the leaves up.
 pub fn insert_all(
     branch: Time,
-    n: usize,
-    xs: &[i64],
-    ys: &[i64],
+    pins: Pins,
     own: &[i64],
     sinks: &[usize],
     levels: &mut [usize],
@@ -78,19 +78,16 @@ pub fn insert_all(
     parents: &mut [usize],
     below: &mut [usize],
 )
-    requires ready { (N : Net) × (Ready N branch.0 n own.now × Lined N n sinks.now × Placed N n xs.now ys.now) }
-    requires n_in_bounds { (2 * n ≤ length levels.old) × (2 * n ≤ length slacks.old) × (2 * n ≤ length parents.old) × (2 * n ≤ length below.old) }
-    ensures tree { (N : Net) → Ready N branch.0 n own.now → Lined N n sinks.now → Placed N n xs.now ys.now → parents_of n parents.new ≡ plan_parents tie_rule N }
-    ensures order { LeavesUp (UnderRoot n) (2 * n - 1) parents.new levels.new }
-    ensures slacks { (N : Net) → Ready N branch.0 n own.now → Lined N n sinks.now → Placed N n xs.now ys.now → (s : ℕ) → 1 ≤ s → s ≤ n → get_or slacks.new s (pos 0) ≡ slack N (plan_by tie_rule N) s }
+    requires ready { (N : Net) × (Ready N branch.0 pins.n own.now × Lined N pins.n sinks.now × Placed N pins.n pins.xs.now pins.ys.now) }
+    requires n_in_bounds { (2 * pins.n ≤ length levels.old) × (2 * pins.n ≤ length slacks.old) × (2 * pins.n ≤ length parents.old) × (2 * pins.n ≤ length below.old) }
+    ensures tree { (N : Net) → Ready N branch.0 pins.entry.n own.now → Lined N pins.entry.n sinks.now → Placed N pins.entry.n pins.entry.xs.now pins.entry.ys.now → parents_of pins.entry.n parents.new ≡ plan_parents tie_rule N }
+    ensures order { LeavesUp (UnderRoot pins.entry.n) (2 * pins.entry.n - 1) parents.new levels.new }
+    ensures slacks { (N : Net) → Ready N branch.0 pins.entry.n own.now → Lined N pins.entry.n sinks.now → Placed N pins.entry.n pins.entry.xs.now pins.entry.ys.now → (s : ℕ) → 1 ≤ s → s ≤ pins.entry.n → get_or slacks.new s (pos 0) ≡ slack N (plan_by tie_rule N) s }
 {
+    let n = pins.n;
     insert_first(n, own, sinks[0], levels, slacks, parents, below);
-    let mut k = 0;
-    while k + 1 < n {
-        insert_next(
-            branch, n, k, xs, ys, own, sinks, levels, slacks, parents, below,
-        );
-        k += 1;
+    for k in 0..n - 1 {
+        insert_next(branch, k, pins, own, sinks, levels, slacks, parents, below);
     }
     write_out(below, 2 * n - 1, levels);
 }

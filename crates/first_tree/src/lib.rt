@@ -4,5 +4,7 @@
 pub mod choose;
 pub mod gather;
 pub mod insert;
+pub mod pins;
 pub mod plan;
+pub mod scoring;
 pub mod upward;

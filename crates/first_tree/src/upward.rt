@@ -20,10 +20,8 @@ pub fn write_out(below: &[usize], m: usize, upward: &mut [usize])
     ensures { (us : List ℕ) → Chained m us below.now → (i : ℕ) → i < m → get_or upward.new i 0 ≡ get_or us i 0 }
 {
     let mut at = 0;
-    let mut i = m;
-    while 0 < i {
+    for i in (0..m).rev() {
         at = below[at];
-        i -= 1;
         upward[i] = at;
     }
 }

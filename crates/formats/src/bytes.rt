@@ -1,8 +1,8 @@
 // The bytes that have a meaning in the two texts.
-pub const ZERO: u8 = 48;
+pub const ZERO: u8 = b'0';
 
-pub const MINUS: u8 = 45;
+pub const MINUS: u8 = b'-';
 
-pub const COMMA: u8 = 44;
+pub const COMMA: u8 = b',';
 
-pub const END: u8 = 10;
+pub const END: u8 = b'\n';

@@ -1,12 +1,12 @@
 // A number while it is read: "A number is read digit by digit, and no digit may push it past its type."
 ghost use Rattle.std.specs.Prelude.{◌≡◌, ◌+◌, ◌*◌, ◌-◌, ◌≤◌, ◌<◌};
-ghost use Rattle.formats.specs.Reading.Numbers.{is_digit, signed};
+ghost use Rattle.formats.specs.Reading.Numbers.{signed};
 ghost use Rattle.formats.specs.Inner.Scanning.{held_by, magnitude_cap};
 
 // Every number of this magnitude or more is held as this one.
 pub const MAGNITUDE_CAP: u64 = 1_000_000_000_000_000_000;
 
-#[derive(Clone, Copy)]
+#[derive(Clone, Copy, Debug, PartialEq, Eq)]
 pub struct Number {
     pub neg: bool,
     pub mag: u64,
@@ -26,11 +26,10 @@ impl Number {
         ensures { result ≡ held_by self.neg (self.mag * 10 + (b - 48)) }
     {
         let neg = self.neg;
-        let mag = self.mag;
-        if mag < MAGNITUDE_CAP {
-            let more = mag * 10 + (b - 48) as u64;
-            if more < MAGNITUDE_CAP {
-                return Number { neg, mag: more };
+        if self.mag < MAGNITUDE_CAP {
+            let mag = self.mag * 10 + u64::from(b - b'0');
+            if mag < MAGNITUDE_CAP {
+                return Number { neg, mag };
             }
         }
         Number {
@@ -45,12 +44,6 @@ impl Number {
         ensures { result ≡ signed self.neg self.mag }
     {
         let z = self.mag as i64;
-        if self.neg { 0 - z } else { z }
+        if self.neg { -z } else { z }
     }
-}
-
-pub fn is_digit(b: u8) -> bool
-    ensures { result ≡ is_digit b }
-{
-    48 <= b && b < 58
 }

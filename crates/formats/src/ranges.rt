@@ -1,14 +1,14 @@
 // The ranges of numbers, as they are read. A number past every range is held at the cap, which is past every range too.
-ghost use Rattle.std.specs.Prelude.{◌≡◌, ◌<◌};
+ghost use Rattle.std.specs.Prelude.{◌≡◌, ◌<◌, Some, None, cond, ℤ, List, map, length};
 ghost use Rattle.formats.specs.Ranges.{around, up_to, from_zero};
-ghost use Rattle.formats.specs.Reading.Lines.{inside};
-ghost use Rattle.formats.specs.Inner.Ranging.{Tested, Narrow};
-ghost use Rattle.formats.specs.Inner.Scanning.{magnitude_cap};
+ghost use Rattle.formats.specs.Reading.Lines.{inside, all_inside};
+ghost use Rattle.formats.specs.Inner.Ranging.{Narrow, AllNarrow};
+ghost use Rattle.formats.specs.Inner.Scanning.{held, magnitude_cap};
 
 use crate::number::{MAGNITUDE_CAP, Number};
 
 // Both ends are in.
-#[derive(Clone, Copy)]
+#[derive(Clone, Copy, Debug, PartialEq, Eq)]
 pub struct Range {
     pub from: i64,
     pub to: i64,
@@ -19,10 +19,8 @@ pub fn around(limit: u64) -> Range
     requires { limit < magnitude_cap }
     ensures { result ≡ around limit }
 {
-    Range {
-        from: 0 - limit as i64,
-        to: limit as i64,
-    }
+    let to = limit as i64;
+    Range { from: -to, to }
 }
 
 // From 1 to limit.
@@ -47,18 +45,30 @@ pub fn from_zero(limit: u64) -> Range
     }
 }
 
-pub fn is_inside(number: Number, range: Range) -> bool
+// The number itself, where it is in the range.
+pub fn in_range(number: Number, range: Range) -> Option<i64>
     requires { Narrow range }
-    ensures { Tested result range number }
+    ensures { (z : ℤ) → number ≡ held z → result ≡ cond (inside range z) (Some z) None }
 {
     if MAGNITUDE_CAP <= number.mag {
-        return false;
+        return None;
     }
     let z = number.value();
-    let from = range.from;
-    let to = range.to;
-    if z < from {
-        return false;
+    if range.from <= z && z <= range.to {
+        Some(z)
+    } else {
+        None
     }
-    z <= to
+}
+
+// The numbers themselves, where each is in its range.
+pub fn in_ranges<const K: usize>(numbers: &[Number], ranges: [Range; K]) -> Option<[i64; K]>
+    requires { AllNarrow ranges × (length numbers.now ≡ K) }
+    ensures { (zs : List ℤ) → numbers.now ≡ map held zs → result ≡ cond (all_inside ranges.entry zs) (Some zs) None }
+{
+    let mut values = [0; K];
+    for k in 0..K {
+        values[k] = in_range(numbers[k], ranges[k])?;
+    }
+    Some(values)
 }

@@ -1,33 +1,13 @@
-// What reading a net answers.
-use crate::reader::Place;
-use crate::refusal::Refusal;
+// What reading the head of a net answers.
+use crate::reader::LineReader;
 use quantities::point::Point;
 use tree::header::Header;
 
-// The first five lines, and where the sinks' lines start; or a refusal.
+// What the head says, and the reader at the sinks' lines.
 #[derive(Clone, Copy)]
-pub enum HeadLines {
-    HeadRead {
-        header: Header,
-        root: Point,
-        n: usize,
-        next: Place,
-    },
-    HeadRefused {
-        refusal: Refusal,
-    },
-}
-
-// The place of the line after a sink's; or a refusal.
-#[derive(Clone, Copy)]
-pub enum SinkLine {
-    SinkRead { next: Place },
-    SinkRefused { refusal: Refusal },
-}
-
-// Whether the sinks of a net stand in the arrays; or a refusal.
-#[derive(Clone, Copy)]
-pub enum NetRead {
-    NetHeld,
-    NetRefused { refusal: Refusal },
+pub struct NetHead<'a> {
+    pub header: Header,
+    pub root: Point,
+    pub n: usize,
+    pub sinks: LineReader<'a>,
 }

@@ -1,86 +1,91 @@
-// Reads a lent text line by line, and knows which line it has come to. The functions over the reader are thin: each takes it apart and calls a function on the
-// text and the numbers. All lines of both texts are read by `read_line` and `bytes_follow`, which make the reader where they are called.
-ghost use Rattle.std.specs.Prelude.{◌≡◌, ◌+◌, ◌^◌, ◌≤◌, ◌<◌, ltb, length, drop};
+// Reads a lent text line by line, and knows which line it has come to.
+ghost use Rattle.std.specs.Prelude.{◌≡◌, ◌+◌, ◌≤◌, ◌<◌, Ok, Err, cond, ltb, length};
 ghost use Rattle.formats.specs.Reading.Rows.{line_in};
-ghost use Rattle.formats.specs.Inner.Scanning.{taken_at};
+ghost use Rattle.formats.specs.Inner.Ranging.{Narrow, AllNarrow};
+ghost use Rattle.formats.specs.Inner.Readers.{AtLine, ahead, row_answer, row_moved, LineSays, NumberSays};
+ghost use Rattle.formats.specs.declared.refusal.Refusal.TheVariants.{BytesFollow};
 
-use crate::scan::{Line, Numbers, line_at};
+use crate::number::Number;
+use crate::ranges::{Range, in_ranges};
+use crate::refusal::{Refusal, Text};
+use crate::scan::line_at;
 
-// A text, where the next line starts in it, and that line's number.
-#[derive(Drop)]
+// A lent text, which of the two it is, where the next line starts in it, and that line's number.
+#[derive(Clone, Copy)]
 pub struct LineReader<'a> {
+    pub which: Text,
     pub text: &'a [u8],
     pub at: usize,
     pub line: usize,
 }
 
-// Where a line starts, and its number.
-#[derive(Clone, Copy)]
-pub struct Place {
-    pub at: usize,
-    pub line: usize,
-}
+impl<'a> LineReader<'a> {
+    pub fn new(which: Text, text: &'a [u8]) -> Self
+        ensures { result ≡ record { which = which; text = text.entry; at = 0; line = 1 } }
+    {
+        LineReader {
+            which,
+            text,
+            at: 0,
+            line: 1,
+        }
+    }
 
-// The numbers of a line that is as due, and the place of the next line; or a line that is not.
-#[derive(Clone, Copy)]
-pub enum Taken {
-    AsDue { numbers: Numbers, next: Place },
-    NotDue,
-}
+    // The numbers of the line that the reader has come to, `key` and K numbers, after which it moves on. Where the line is not as due it stays.
+    pub fn row<const K: usize>(&mut self, key: &[u8]) -> Result<[Number; K], Refusal>
+        requires { AtLine self.old × (1 ≤ K) }
+        ensures answer { result ≡ row_answer self.old (line_in key.now K (ahead self.old)) }
+        ensures moved { self.new ≡ row_moved self.old (line_in key.now K (ahead self.old)) }
+    {
+        let not_due = Refusal::NotDue {
+            text: self.which,
+            line: self.line,
+        };
+        let (numbers, next) = line_at(self.text, self.at, key).ok_or(not_due)?;
+        self.at = next;
+        self.line += 1;
+        Ok(numbers)
+    }
 
-// Line number `line`, at `at`, where it is as due: `key` and `count` numbers.
-fn taken_at(text: &[u8], at: usize, line: usize, key: &[u8], count: usize) -> Taken
-    requires { (at ≤ length text.now) × (line + 1 < 2 ^ 64) × (1 ≤ count) × (count ≤ 4) }
-    ensures { result ≡ taken_at at line (line_in key.now count (drop at text.now)) }
-{
-    let Line::Spelt { numbers, next: end } = line_at(text, at, key, count) else {
-        return Taken::NotDue;
-    };
-    let next = Place {
-        at: end,
-        line: line + 1,
-    };
-    Taken::AsDue { numbers, next }
-}
+    // The numbers of that line, each in its range. Where it is refused the reader stays.
+    pub fn numbers<const K: usize>(
+        &mut self,
+        key: &[u8],
+        ranges: [Range; K],
+    ) -> Result<[i64; K], Refusal>
+        requires { AtLine self.old × AllNarrow ranges × (1 ≤ K) }
+        ensures { LineSays key.now ranges.entry self.old result self.new }
+    {
+        let out_of_range = Refusal::OutOfRange {
+            text: self.which,
+            line: self.line,
+        };
+        let mut after = *self;
+        let numbers: [Number; K] = after.row(key)?;
+        let values = in_ranges(&numbers, ranges).ok_or(out_of_range)?;
+        *self = after;
+        Ok(values)
+    }
 
-fn has_byte(text: &[u8], at: usize) -> bool
-    ensures { result ≡ ltb at (length text.now) }
-{
-    at < text.len()
-}
+    // The number of that line, in its range. Where it is refused the reader stays.
+    pub fn number(&mut self, key: &[u8], range: Range) -> Result<i64, Refusal>
+        requires { AtLine self.old × Narrow range }
+        ensures { NumberSays key.now range self.old result self.new }
+    {
+        let [value] = self.numbers(key, [range])?;
+        Ok(value)
+    }
 
-pub fn reader<'a>(text: &'a [u8], at: usize, line: usize) -> LineReader<'a>
-    ensures { result ≡ record { text = text.entry; at = at; line = line } }
-{
-    LineReader { text, at, line }
-}
-
-// The line that the reader has come to, where it is as due.
-pub fn take_line<'a, 'k>(r: LineReader<'a>, key: &'k [u8], count: usize) -> Taken
-    requires { (r.at ≤ length r.text.now) × (r.line + 1 < 2 ^ 64) × (1 ≤ count) × (count ≤ 4) }
-    ensures { result ≡ taken_at r.entry.at r.entry.line (line_in key.now count (drop r.entry.at r.entry.text.now)) }
-{
-    taken_at(r.text, r.at, r.line, key, count)
-}
-
-// Whether the text goes on.
-pub fn has_more<'a>(r: LineReader<'a>) -> bool
-    ensures { result ≡ ltb r.entry.at (length r.entry.text.now) }
-{
-    has_byte(r.text, r.at)
-}
-
-// Line number `line`, at `at`, by a reader that has come to it.
-pub fn read_line(text: &[u8], at: usize, line: usize, key: &[u8], count: usize) -> Taken
-    requires { (at ≤ length text.now) × (line + 1 < 2 ^ 64) × (1 ≤ count) × (count ≤ 4) }
-    ensures { result ≡ taken_at at line (line_in key.now count (drop at text.now)) }
-{
-    take_line(reader(text, at, line), key, count)
-}
-
-// Whether bytes follow where the last line ended and line number `line` would start.
-pub fn bytes_follow(text: &[u8], at: usize, line: usize) -> bool
-    ensures { result ≡ ltb at (length text.now) }
-{
-    has_more(reader(text, at, line))
+    // Nothing follows.
+    pub fn end(&self) -> Result<(), Refusal>
+        ensures { result ≡ cond (ltb self.now.at (length self.now.text.now)) (Err (BytesFollow self.now.which self.now.line)) (Ok tt) }
+    {
+        if self.at < self.text.len() {
+            return Err(Refusal::BytesFollow {
+                text: self.which,
+                line: self.line,
+            });
+        }
+        Ok(())
+    }
 }

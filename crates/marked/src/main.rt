@@ -2,37 +2,38 @@
 // requests 1, 4, 5, 6 and 7 the listing, of those of request 8 the score's bits, of those of request 9 both texts.
 #![tactic(auto)]
 
-use console::stream::{Input, read_file};
+use console::stream::read_file;
 use first_plan::plan::plan;
 use formats::limits::{LISTING_LENGTH_LIMIT, NET_LENGTH_LIMIT};
-use formats::refusal::{Refusal, tell};
+use formats::refusal::{Refusal, Told};
 use judging::judge::judge;
-use operations::answers::{JudgeAnswer, PlanAnswer};
-use pin_deletion::delete_pin::{DeletionAnswer, delete_pin};
-use scoring::score::{ScoreAnswer, score};
-use short_tree::plan_short::plan_short;
+use operations::planner::Planner;
+use pin_deletion::delete_pin::delete_pin;
+use scoring::score::score;
+use short_tree::plan_short::ShortTree;
 use std::io;
-use weighted_tree::plan_weighted::plan_weighted;
+use weighted_tree::plan_weighted::WeightedTree;
 
-fn show_figures(
-    rt: &HostRuntime,
-    number: u8,
-    text: u8,
-    line: usize,
-    bytes: usize,
-) -> io::Result<()> {
+fn show_figures(rt: &HostRuntime, told: Told, bytes: usize) -> io::Result<()> {
+    let Told { number, text, line } = told;
     println!(rt; "{number},{text},{line} {bytes}")
 }
 
+// Nothing is refused.
+const NONE: Told = Told {
+    number: 0,
+    text: 0,
+    line: 0,
+};
+
 fn show_refusal(rt: &HostRuntime, refusal: Refusal) -> io::Result<()> {
-    let told = tell(refusal);
-    show_figures(rt, told.number, told.text, told.line, 0)
+    show_figures(rt, refusal.told(), 0)
 }
 
 fn show_judgement(rt: &HostRuntime, net: &[u8], listing: &[u8]) -> io::Result<()> {
     match judge(net, listing) {
-        JudgeAnswer::Judged { slack, wire, best } => show_figures(rt, 0, 0, 0, 0),
-        JudgeAnswer::JudgeRefused { refusal } => show_refusal(rt, refusal),
+        Ok(_) => show_figures(rt, NONE, 0),
+        Err(refusal) => show_refusal(rt, refusal),
     }
 }
 
@@ -57,11 +58,11 @@ fn judge_written(rt: &HostRuntime, net: &[u8], out: &[u8], bytes: usize) -> io::
 fn show(rt: &HostRuntime, net: &[u8]) -> io::Result<()> {
     let mut out = [0u8; LISTING_LENGTH_LIMIT];
     match plan(net, &mut out) {
-        PlanAnswer::Planned { slack, wire, bytes } => {
-            show_figures(rt, 0, 0, 0, bytes)?;
-            judge_written(rt, net, &out, bytes)
+        Ok(planned) => {
+            show_figures(rt, NONE, planned.bytes)?;
+            judge_written(rt, net, &out, planned.bytes)
         }
-        PlanAnswer::PlanRefused { refusal } => {
+        Err(refusal) => {
             show_refusal(rt, refusal)?;
             show_judgement(rt, net, b"no listing")
         }
@@ -78,32 +79,20 @@ fn print_listing(rt: &HostRuntime, out: &[u8], bytes: usize) -> io::Result<()> {
 fn show_listing(rt: &HostRuntime, net: &[u8]) -> io::Result<()> {
     let mut out = [0u8; LISTING_LENGTH_LIMIT];
     match plan(net, &mut out) {
-        PlanAnswer::Planned { slack, wire, bytes } => { print_listing(rt, &out, bytes) }
-        PlanAnswer::PlanRefused { refusal } => show_refusal(rt, refusal),
+        Ok(planned) => print_listing(rt, &out, planned.bytes),
+        Err(refusal) => show_refusal(rt, refusal),
     }
 }
 
-// The listing of the short tree, and what judge returns for it.
-fn show_short(rt: &HostRuntime, net: &[u8]) -> io::Result<()> {
+// The listing of a plan that ignores need, and what judge returns for it.
+fn show_tree<P: Planner>(rt: &HostRuntime, net: &[u8]) -> io::Result<()> {
     let mut out = [0u8; LISTING_LENGTH_LIMIT];
-    match plan_short(net, &mut out) {
-        PlanAnswer::Planned { slack, wire, bytes } => {
-            print_listing(rt, &out, bytes)?;
-            judge_written(rt, net, &out, bytes)
+    match P::plan(net, &mut out) {
+        Ok(planned) => {
+            print_listing(rt, &out, planned.bytes)?;
+            judge_written(rt, net, &out, planned.bytes)
         }
-        PlanAnswer::PlanRefused { refusal } => show_refusal(rt, refusal),
-    }
-}
-
-// The same of the tree by switching weights.
-fn show_weighted(rt: &HostRuntime, net: &[u8]) -> io::Result<()> {
-    let mut out = [0u8; LISTING_LENGTH_LIMIT];
-    match plan_weighted(net, &mut out) {
-        PlanAnswer::Planned { slack, wire, bytes } => {
-            print_listing(rt, &out, bytes)?;
-            judge_written(rt, net, &out, bytes)
-        }
-        PlanAnswer::PlanRefused { refusal } => show_refusal(rt, refusal),
+        Err(refusal) => show_refusal(rt, refusal),
     }
 }
 
@@ -117,11 +106,11 @@ fn show_score(
     cap: i64,
 ) -> io::Result<()> {
     match score(net, listing, alpha_1024ths, beta_1024ths, cap) {
-        ScoreAnswer::Scored { score: given } => {
+        Ok(given) => {
             let bits = f64::to_bits(given);
             println!(rt; "{bits:016x}")
         }
-        ScoreAnswer::ScoreRefused { refusal } => show_refusal(rt, refusal),
+        Err(refusal) => show_refusal(rt, refusal),
     }
 }
 
@@ -149,15 +138,18 @@ fn show_deletion(
     listing_out: &mut [u8],
 ) -> io::Result<()> {
     match delete_pin(net, listing, sink, net_out, listing_out) {
-        DeletionAnswer::Deleted {
-            net_bytes,
-            listing_bytes,
-        } => {
-            print_listing(rt, net_out, net_bytes)?;
-            print_listing(rt, listing_out, listing_bytes)?;
-            judge_shorter(rt, net_out, net_bytes, listing_out, listing_bytes)
+        Ok(deleted) => {
+            print_listing(rt, net_out, deleted.net_bytes)?;
+            print_listing(rt, listing_out, deleted.listing_bytes)?;
+            judge_shorter(
+                rt,
+                net_out,
+                deleted.net_bytes,
+                listing_out,
+                deleted.listing_bytes,
+            )
         }
-        DeletionAnswer::DeletionRefused { refusal } => show_refusal(rt, refusal),
+        Err(refusal) => show_refusal(rt, refusal),
     }
 }
 
@@ -171,9 +163,8 @@ fn show_without(rt: &HostRuntime, net: &[u8], listing: &[u8], sink: usize) -> io
 fn show_file(rt: &HostRuntime, name: &[u8]) -> io::Result<()> {
     let mut net = [0u8; NET_LENGTH_LIMIT + 1];
     match read_file(rt, name, &mut net, &mut rt.stderr()) {
-        Input::Ended { bytes } => show(rt, &net[..bytes]),
-        Input::Full => show(rt, &net),
-        Input::Failed => Ok(()),
+        Some(bytes) => show(rt, &net[..bytes]),
+        None => Ok(()),
     }
 }
 
@@ -401,31 +392,31 @@ fn show_factors(rt: &HostRuntime) -> io::Result<()> {
 
 // Request 6 of 02: A, also with a need that no tree has; ties by sink; the edge above a branch point; ties by lower end; one sink; a far pin: 13,1,6.
 fn show_short_trees(rt: &HostRuntime) -> io::Result<()> {
-    show_short(
+    show_tree::<ShortTree>(
         rt,
         b"root=0,0\nbranch=20\nwire=2,2\nneed=0\nsinks=3\nsink=10,0,100,1\nsink=4,6,60,1\nsink=10,10,70,1\n",
     )?;
-    show_short(
+    show_tree::<ShortTree>(
         rt,
         b"root=0,0\nbranch=20\nwire=2,2\nneed=1\nsinks=3\nsink=10,0,100,1\nsink=4,6,60,1\nsink=10,10,70,1\n",
     )?;
-    show_short(
+    show_tree::<ShortTree>(
         rt,
         b"root=0,0\nbranch=20\nwire=2,3\nneed=0\nsinks=3\nsink=3,4,60,1\nsink=2,4,60,1\nsink=5,0,60,1\n",
     )?;
-    show_short(
+    show_tree::<ShortTree>(
         rt,
         b"root=0,0\nbranch=20\nwire=2,2\nneed=0\nsinks=3\nsink=10,2,100,1\nsink=10,-2,100,1\nsink=5,9,100,1\n",
     )?;
-    show_short(
+    show_tree::<ShortTree>(
         rt,
         b"root=0,0\nbranch=20\nwire=2,2\nneed=-40\nsinks=3\nsink=0,0,0,1\nsink=0,0,0,1\nsink=0,0,0,1\n",
     )?;
-    show_short(
+    show_tree::<ShortTree>(
         rt,
         b"root=0,0\nbranch=20\nwire=2,2\nneed=0\nsinks=1\nsink=3,4,10,1\n",
     )?;
-    show_short(
+    show_tree::<ShortTree>(
         rt,
         b"root=0,0\nbranch=20\nwire=2,2\nneed=0\nsinks=1\nsink=40000001,0,100,1\n",
     )
@@ -434,27 +425,27 @@ fn show_short_trees(rt: &HostRuntime) -> io::Result<()> {
 // Request 7 of 02: weights 1, 1, 2, 3, 5; ties between sinks and a joined vertex, and among joined ones; A with weights 5, 1, 1, also with a need that no tree has;
 // one sink.
 fn show_weighted_trees(rt: &HostRuntime) -> io::Result<()> {
-    show_weighted(
+    show_tree::<WeightedTree>(
         rt,
         b"root=0,0\nbranch=20\nwire=2,2\nneed=0\nsinks=5\nsink=8,0,100,1\nsink=8,4,100,1\nsink=2,6,100,2\nsink=-4,2,100,3\nsink=0,-5,100,5\n",
     )?;
-    show_weighted(
+    show_tree::<WeightedTree>(
         rt,
         b"root=0,0\nbranch=20\nwire=2,2\nneed=0\nsinks=4\nsink=8,0,100,3\nsink=8,4,100,1\nsink=2,6,100,2\nsink=4,2,100,3\n",
     )?;
-    show_weighted(
+    show_tree::<WeightedTree>(
         rt,
         b"root=0,0\nbranch=20\nwire=2,2\nneed=0\nsinks=6\nsink=8,0,100,1\nsink=8,4,100,1\nsink=2,6,100,1\nsink=4,2,100,1\nsink=1,9,100,1\nsink=6,6,100,1\n",
     )?;
-    show_weighted(
+    show_tree::<WeightedTree>(
         rt,
         b"root=0,0\nbranch=20\nwire=2,2\nneed=0\nsinks=3\nsink=10,0,100,5\nsink=4,6,60,1\nsink=10,10,70,1\n",
     )?;
-    show_weighted(
+    show_tree::<WeightedTree>(
         rt,
         b"root=0,0\nbranch=20\nwire=2,2\nneed=1\nsinks=3\nsink=10,0,100,5\nsink=4,6,60,1\nsink=10,10,70,1\n",
     )?;
-    show_weighted(
+    show_tree::<WeightedTree>(
         rt,
         b"root=0,0\nbranch=20\nwire=2,2\nneed=0\nsinks=1\nsink=3,4,10,1000\n",
     )
@@ -462,31 +453,31 @@ fn show_weighted_trees(rt: &HostRuntime) -> io::Result<()> {
 
 // Weights at the ends of their range: they pass; one past it: 3,1,6; none, or two: 2,1,6; a far pin: 13,1,6, after 3.
 fn show_weights(rt: &HostRuntime) -> io::Result<()> {
-    show_weighted(
+    show_tree::<WeightedTree>(
         rt,
         b"root=0,0\nbranch=20\nwire=2,2\nneed=0\nsinks=1\nsink=0,0,0,1\n",
     )?;
-    show_weighted(
+    show_tree::<WeightedTree>(
         rt,
         b"root=0,0\nbranch=20\nwire=2,2\nneed=0\nsinks=1\nsink=0,0,0,0\n",
     )?;
-    show_weighted(
+    show_tree::<WeightedTree>(
         rt,
         b"root=0,0\nbranch=20\nwire=2,2\nneed=0\nsinks=1\nsink=0,0,0,1001\n",
     )?;
-    show_weighted(
+    show_tree::<WeightedTree>(
         rt,
         b"root=0,0\nbranch=20\nwire=2,2\nneed=0\nsinks=1\nsink=0,0,0\n",
     )?;
-    show_weighted(
+    show_tree::<WeightedTree>(
         rt,
         b"root=0,0\nbranch=20\nwire=2,2\nneed=0\nsinks=1\nsink=0,0,0,1,1\n",
     )?;
-    show_weighted(
+    show_tree::<WeightedTree>(
         rt,
         b"root=0,0\nbranch=20\nwire=2,2\nneed=0\nsinks=1\nsink=40000001,0,0,1000\n",
     )?;
-    show_weighted(
+    show_tree::<WeightedTree>(
         rt,
         b"root=0,0\nbranch=20\nwire=2,2\nneed=0\nsinks=1\nsink=40000001,0,0,1001\n",
     )?;
@@ -494,7 +485,7 @@ fn show_weights(rt: &HostRuntime) -> io::Result<()> {
         rt,
         b"root=0,0\nbranch=20\nwire=2,2\nneed=0\nsinks=1\nsink=0,0,0\n",
     )?;
-    show_short(
+    show_tree::<ShortTree>(
         rt,
         b"root=0,0\nbranch=20\nwire=2,2\nneed=0\nsinks=1\nsink=0,0,0\n",
     )

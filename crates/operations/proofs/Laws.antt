@@ -3,6 +3,8 @@ pub mod Answers
 pub mod PlanListing
 pub mod Planning
 pub mod Judging
+pub mod HeadsRead
+pub mod AcceptedOver
 pub mod Refusing
 pub mod Needless
 pub mod Demands

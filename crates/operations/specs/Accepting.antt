@@ -1,6 +1,5 @@
 -- Which listings are accepted: document 01, 'Refusals by text and line', and what every call that takes a net and a listing starts from. Definitions alone.
-use Rattle.std.specs.Prelude.{ℕ, zero, suc, ◌+◌, true, false, ◌&&◌, List, eqb}
-use Rattle.std.proofs.Math.Option.{Option, none, some}
+use Rattle.std.specs.Prelude.{ℕ, zero, suc, ◌+◌, true, false, ◌&&◌, List, eqb, Option, None, Some}
 use Rattle.std.specs.Int.Signed.{le_z}
 use Rattle.tree.specs.Net.{Net, size}
 use Rattle.tree.specs.Measures.{worst_slack, wire_length}
@@ -19,8 +18,8 @@ vertex_line (suc v) = suc v + 3
 
 -- the refusal on the line of the vertex that was found; else what comes next
 abbrev pub unless_found : {A : Type 0} → (ℕ → Refusal) → Option ℕ → Outcome A → Outcome A
-unless_found refusal (some v) next = refused (refusal (vertex_line v))
-unless_found refusal none next = next
+unless_found refusal (Some v) next = refused (refusal (vertex_line v))
+unless_found refusal None next = next
 
 -- 11 and 12: the stated slack and wire are the tree's
 abbrev pub true_only : Net → Listing → Outcome Listing

@@ -1,5 +1,5 @@
 -- What plan and judge answer, for all bytes: document 01, 'The tree listing' and 'Refusals by text and line'. Definitions alone.
-use Rattle.std.specs.Prelude.{ℕ, true, false, List, [], ◌++◌, length, drop, ltb, ℤ, pos}
+use Rattle.std.specs.Prelude.{ℕ, true, false, List, [], ◌++◌, length, drop, ltb, ℤ, pos, Result, Ok, Err}
 use Rattle.std.specs.Int.Signed.{lt_z}
 use Rattle.tree.specs.Net.{Net, size, own_slacks}
 use Rattle.tree.specs.Tree.{Tree}
@@ -10,12 +10,11 @@ use Rattle.formats.specs.Refusals.{told}
 use Rattle.formats.specs.Outcome.{Outcome, value, refused, and_then}
 use Rattle.formats.specs.Reading.Nets.{read_net}
 use Rattle.formats.specs.ListingText.{Listing, listing_text}
+use Rattle.formats.specs.declared.refusal.Refusal.{Refusal}
 use Rattle.formats.specs.declared.refusal.Refusal.TheVariants.{Unreachable, TooShort}
 use Rattle.operations.specs.Accepting.{Accepted, accepted}
-use Rattle.operations.specs.declared.answers.PlanAnswer.{PlanAnswer}
-use Rattle.operations.specs.declared.answers.PlanAnswer.TheVariants.{Planned, PlanRefused}
-use Rattle.operations.specs.declared.answers.JudgeAnswer.{JudgeAnswer}
-use Rattle.operations.specs.declared.answers.JudgeAnswer.TheVariants.{Judged, JudgeRefused}
+use Rattle.operations.specs.declared.answers.Planned.{Planned}
+use Rattle.operations.specs.declared.answers.Judged.{Judged}
 
 -- ---- plan
 
@@ -65,9 +64,9 @@ unfoldable pub plan_output : List ℕ → List ℕ → List ℕ
 plan_output net out = overwritten (bytes_of (plan_of net (length out))) out
 
 -- the answer of the function
-abbrev pub plan_answer : Outcome Written → PlanAnswer
-plan_answer (value w) = Planned (record { 0 = w.slack }) (record { 0 = w.wire }) (length w.bytes)
-plan_answer (refused e) = PlanRefused e
+abbrev pub plan_answer : Outcome Written → Result Planned Refusal
+plan_answer (value w) = Ok (record { slack = record { 0 = w.slack }; wire = record { 0 = w.wire }; bytes = length w.bytes })
+plan_answer (refused e) = Err e
 
 -- "Where nothing is refused, number, text and line are 0." "All figures except number, text and line are then 0"
 pub record PlanFigures : Type 0 where
@@ -78,9 +77,9 @@ pub record PlanFigures : Type 0 where
   pub wire : ℕ
   pub bytes : ℕ
 
-abbrev pub plan_figures : PlanAnswer → PlanFigures
-plan_figures (Planned slack wire bytes) = record { number = 0; text = 0; line = 0; slack = slack.0; wire = wire.0; bytes = bytes }
-plan_figures (PlanRefused e) = record { number = (told e).number; text = (told e).text; line = (told e).line; slack = pos 0; wire = 0; bytes = 0 }
+abbrev pub plan_figures : Result Planned Refusal → PlanFigures
+plan_figures (Ok p) = record { number = 0; text = 0; line = 0; slack = p.slack.0; wire = p.wire.0; bytes = p.bytes }
+plan_figures (Err e) = record { number = (told e).number; text = (told e).text; line = (told e).line; slack = pos 0; wire = 0; bytes = 0 }
 
 -- ---- judge
 
@@ -101,9 +100,9 @@ judgement a = record {
 unfoldable pub judge_of : List ℕ → List ℕ → Outcome Judgement
 judge_of net listing = and_then (accepted net listing) λ a. value (judgement a)
 
-abbrev pub judge_answer : Outcome Judgement → JudgeAnswer
-judge_answer (value j) = Judged (record { 0 = j.slack }) (record { 0 = j.wire }) (record { 0 = j.best })
-judge_answer (refused e) = JudgeRefused e
+abbrev pub judge_answer : Outcome Judgement → Result Judged Refusal
+judge_answer (value j) = Ok (record { slack = record { 0 = j.slack }; wire = record { 0 = j.wire }; best = record { 0 = j.best } })
+judge_answer (refused e) = Err e
 
 pub record JudgeFigures : Type 0 where
   pub number : ℕ
@@ -113,6 +112,6 @@ pub record JudgeFigures : Type 0 where
   pub wire : ℕ
   pub best : ℤ
 
-abbrev pub judge_figures : JudgeAnswer → JudgeFigures
-judge_figures (Judged slack wire best) = record { number = 0; text = 0; line = 0; slack = slack.0; wire = wire.0; best = best.0 }
-judge_figures (JudgeRefused e) = record { number = (told e).number; text = (told e).text; line = (told e).line; slack = pos 0; wire = 0; best = pos 0 }
+abbrev pub judge_figures : Result Judged Refusal → JudgeFigures
+judge_figures (Ok j) = record { number = 0; text = 0; line = 0; slack = j.slack.0; wire = j.wire.0; best = j.best.0 }
+judge_figures (Err e) = record { number = (told e).number; text = (told e).text; line = (told e).line; slack = pos 0; wire = 0; best = pos 0 }

@@ -1,5 +1,5 @@
 -- The three demands of the order, as statements about what the contracts of plan and judge give.
-use Rattle.std.specs.Prelude.{ℕ, ◌≤◌, ◌<◌, ◌≡◌, ◌↔◌, ◌≢◌, List, ◌++◌, length, take, drop, ℤ, pos, neg_ℤ, ◌≤ℤ◌}
+use Rattle.std.specs.Prelude.{ℕ, ◌≤◌, ◌<◌, ◌≡◌, ◌↔◌, ◌≢◌, List, ◌++◌, length, take, drop, ℤ, pos, neg_ℤ, ◌≤ℤ◌, Result}
 use Rattle.tree.specs.Net.{Net, size, own_slacks}
 use Rattle.tree.specs.Tree.{Tree, LegalTree}
 use Rattle.tree.specs.Limits.{need_limit}
@@ -15,8 +15,8 @@ use Rattle.formats.specs.declared.refusal.Refusal.{Refusal}
 use Rattle.formats.specs.declared.refusal.Refusal.TheVariants.{Unreachable, TooShort}
 use Rattle.operations.specs.Answers.{Written, plan_of, bytes_of, plan_output, plan_listing, plan_figures, Judgement, judge_of, judge_figures}
 use Rattle.operations.specs.Refusing.{NeedUnreachable, PlanRefuses, JudgeRefuses}
-use Rattle.operations.specs.declared.answers.PlanAnswer.{PlanAnswer}
-use Rattle.operations.specs.declared.answers.JudgeAnswer.{JudgeAnswer}
+use Rattle.operations.specs.declared.answers.Planned.{Planned}
+use Rattle.operations.specs.declared.answers.Judged.{Judged}
 
 -- a refusal of the net text: 1 to 4 and 13, with text 1. (5 has text 1 too, but it is about the trees of a net that was read.)
 abbrev pub OfNetText : Refusal → Type 0
@@ -40,8 +40,8 @@ pub record Demand1 (net listing out : List ℕ) : Type 0 where
 -- the figures that a caller gets tell the answers apart, a refusal from a result too
 pub record Figures : Type 0 where
   pub numbered : (e : Refusal) → 1 ≤ (told e).number
-  pub plan_one : (a b : PlanAnswer) → plan_figures a ≡ plan_figures b → a ≡ b
-  pub judge_one : (a b : JudgeAnswer) → judge_figures a ≡ judge_figures b → a ≡ b
+  pub plan_one : (a b : Result Planned Refusal) → plan_figures a ≡ plan_figures b → a ≡ b
+  pub judge_one : (a b : Result Judged Refusal) → judge_figures a ≡ judge_figures b → a ≡ b
 
 -- the listing gives a legal tree, and its stated slack and wire are that tree's
 abbrev pub LegalAndTrue : Net → Listing → Type 0

@@ -1,28 +1,21 @@
 // Accept: a listing over its net, as every operation on the two starts. Net and tree stay in the arrays as they were read.
-ghost use Rattle.std.specs.Prelude.{◌≡◌, ◌*◌, ◌≤◌, ◌<◌, length};
+ghost use Rattle.std.specs.Prelude.{◌≡◌, ◌*◌, ◌≤◌, ◌<◌, length, OnOk};
 ghost use Rattle.tree.specs.Limits.{sink_limit};
-ghost use Rattle.tree.specs.Inner.Arrays.{net_of, HoldsNet, HoldsTree, RootDown};
-ghost use Rattle.formats.specs.Inner.ListingReader.{HasVertices, listing_held, SinksKept};
+ghost use Rattle.tree.specs.Inner.Arrays.{net_of, HoldsNet, HoldsWeights, RootDown};
+ghost use Rattle.formats.specs.Inner.ListingReader.{HasVertices, listing_held, listing_outcome, SinksKept};
+ghost use Rattle.formats.specs.Inner.Readers.{HeadHeld, HasPlace};
 ghost use Rattle.operations.specs.Accepting.{vertex_line, true_only, accept_tree, accept_listing};
-ghost use Rattle.operations.specs.Inner.Acceptance.{HasRoom, accept_outcome};
+ghost use Rattle.operations.specs.Inner.Acceptance.{HasRoom, accepted_over, over_outcome};
 
-use formats::read_listing::ListingRead;
+use formats::read_net::NetHead;
 use formats::refusal::Refusal;
-use quantities::length::Length;
-use quantities::time::Time;
 use reading::read_listing::read_listing;
+use reading::read_net::read_rest;
 use tree::children::wrong_children;
 use tree::descend::lowest_unreached;
-use tree::found::Found;
 use tree::header::Header;
-use tree::measure::measure_tree;
-
-// The slack and the wire of a listing that is accepted, as it states them; or a refusal.
-#[derive(Clone, Copy)]
-pub enum Acceptance {
-    AcceptedListing { slack: Time, wire: Length },
-    NotAccepted { refusal: Refusal },
-}
+use tree::measures::Measures;
+use tree::view::TreeView;
 
 // The line of vertex v in a listing; 0 for the root, which has none.
 fn vertex_line(v: usize) -> usize
@@ -32,76 +25,60 @@ fn vertex_line(v: usize) -> usize
     if v == 0 { 0 } else { v + 3 }
 }
 
-// A tree that is legal, by its stated slack and wire. `queue` has its vertices from the root down.
+// A tree that is legal, by its stated measures. `queue` has its vertices from the root down.
 fn accept_stated(
     header: Header,
-    n: usize,
-    xs: &[i64],
-    ys: &[i64],
+    tree: TreeView,
     required: &[i64],
-    parents: &[usize],
     queue: &[usize],
     slacks: &mut [i64],
-    slack: Time,
-    wire: Length,
-) -> Acceptance
-    requires holds_net { HoldsNet header n xs.now ys.now required.now × HoldsTree n parents.now xs.now ys.now }
-    requires root_down { RootDown n parents.now queue.now × (2 * n ≤ length slacks.old) }
-    ensures { accept_outcome result n parents.now xs.now ys.now ≡ true_only (net_of header n xs.now ys.now required.now) (listing_held slack wire n parents.now xs.now ys.now) }
+    stated: Measures,
+) -> Result<Measures, Refusal>
+    requires holds_net { HoldsNet header tree.n tree.xs.now tree.ys.now required.now }
+    requires root_down { RootDown tree.n tree.parents.now queue.now × (2 * tree.n ≤ length slacks.old) }
+    ensures { listing_outcome result tree.entry.n tree.entry.parents.now tree.entry.xs.now tree.entry.ys.now ≡ true_only (net_of header tree.entry.n tree.entry.xs.now tree.entry.ys.now required.now) (listing_held stated.slack stated.wire tree.entry.n tree.entry.parents.now tree.entry.xs.now tree.entry.ys.now) }
 {
-    let tally = measure_tree(header, n, parents, xs, ys, required, queue, slacks);
-    let worst = tally.worst;
-    let total = tally.wire;
-    if !slack.is_same(worst) {
-        return Acceptance::NotAccepted {
-            refusal: Refusal::OtherSlack,
-        };
+    let measured = tree.measure_tree(header, required, queue, slacks);
+    if measured.slack != stated.slack {
+        return Err(Refusal::OtherSlack);
     }
-    if !wire.is_same(total) {
-        return Acceptance::NotAccepted {
-            refusal: Refusal::OtherWire,
-        };
+    if measured.wire != stated.wire {
+        return Err(Refusal::OtherWire);
     }
-    Acceptance::AcceptedListing { slack, wire }
+    Ok(stated)
 }
 
-// A tree that stands in the arrays, with its stated slack and wire.
+// A tree with its stated measures.
 fn accept_tree(
     header: Header,
-    n: usize,
-    xs: &[i64],
-    ys: &[i64],
+    tree: TreeView,
     required: &[i64],
-    parents: &[usize],
     first: &mut [usize],
     second: &mut [usize],
     queue: &mut [usize],
     slacks: &mut [i64],
-    slack: Time,
-    wire: Length,
-) -> Acceptance
-    requires holds_net { HoldsNet header n xs.now ys.now required.now × HoldsTree n parents.now xs.now ys.now }
-    requires has_room { HasRoom n first.old second.old queue.old slacks.old }
-    ensures { accept_outcome result n parents.now xs.now ys.now ≡ accept_tree (net_of header n xs.now ys.now required.now) (listing_held slack wire n parents.now xs.now ys.now) }
+    stated: Measures,
+) -> Result<Measures, Refusal>
+    requires holds_net { HoldsNet header tree.n tree.xs.now tree.ys.now required.now }
+    requires has_room { HasRoom tree.n first.old second.old queue.old slacks.old }
+    ensures { listing_outcome result tree.entry.n tree.entry.parents.now tree.entry.xs.now tree.entry.ys.now ≡ accept_tree (net_of header tree.entry.n tree.entry.xs.now tree.entry.ys.now required.now) (listing_held stated.slack stated.wire tree.entry.n tree.entry.parents.now tree.entry.xs.now tree.entry.ys.now) }
 {
-    if let Found::At(v) = wrong_children(n, parents, queue) {
-        let line = vertex_line(v);
-        return Acceptance::NotAccepted {
-            refusal: Refusal::WrongChildren { line },
-        };
+    if let Some(v) = wrong_children(tree.n, tree.parents, queue) {
+        return Err(Refusal::WrongChildren {
+            line: vertex_line(v),
+        });
     }
-    if let Found::At(v) = lowest_unreached(n, parents, first, second, queue) {
-        let line = vertex_line(v);
-        return Acceptance::NotAccepted {
-            refusal: Refusal::NotReached { line },
-        };
+    if let Some(v) = lowest_unreached(tree.n, tree.parents, first, second, queue) {
+        return Err(Refusal::NotReached {
+            line: vertex_line(v),
+        });
     }
-    accept_stated(
-        header, n, xs, ys, required, parents, queue, slacks, slack, wire,
-    )
+    accept_stated(header, tree, required, queue, slacks, stated)
 }
 
-// The listing over a net that stands in the arrays. Its parents and points go to `parents`, `xs` and `ys`; the other arrays are room to work in.
+// The listing over a net that stands in the arrays: its measures, as it states them, where it is accepted. Its parents and points go to `parents`, `xs` and `ys`; the
+// other arrays are room to work in.
+// The arrays are lent one by one: callers lend some of them on afterwards, and a struct of mutable slices would be taken apart for each of these calls.
 pub fn accept(
     header: Header,
     n: usize,
@@ -114,16 +91,49 @@ pub fn accept(
     queue: &mut [usize],
     slacks: &mut [i64],
     listing: &[u8],
-) -> Acceptance
+) -> Result<Measures, Refusal>
     requires holds_net { HoldsNet header n xs.old ys.old required.now × HasVertices n parents.old xs.old ys.old }
     requires has_room { HasRoom n first.old second.old queue.old slacks.old }
-    ensures accepted { accept_outcome result n parents.new xs.new ys.new ≡ accept_listing (net_of header n xs.old ys.old required.now) listing.now }
+    ensures accepted { listing_outcome result n parents.new xs.new ys.new ≡ accept_listing (net_of header n xs.old ys.old required.now) listing.now }
     ensures kept { SinksKept n xs.old ys.old xs.new ys.new }
 {
-    match read_listing(listing, n, parents, xs, ys) {
-        ListingRead::ListingRefused { refusal } => Acceptance::NotAccepted { refusal },
-        ListingRead::ListingHeld { slack, wire } => accept_tree(
-            header, n, xs, ys, required, parents, first, second, queue, slacks, slack, wire,
-        ),
-    }
+    let stated = read_listing(listing, n, parents, xs, ys)?;
+    let tree = TreeView { n, parents, xs, ys };
+    accept_tree(header, tree, required, first, second, queue, slacks, stated)
+}
+
+// The same over a net whose head was read: its sinks are read into the arrays first.
+pub fn accept_over(
+    head: NetHead,
+    xs: &mut [i64],
+    ys: &mut [i64],
+    required: &mut [i64],
+    weights: &mut [i64],
+    parents: &mut [usize],
+    first: &mut [usize],
+    second: &mut [usize],
+    queue: &mut [usize],
+    slacks: &mut [i64],
+    listing: &[u8],
+) -> Result<Measures, Refusal>
+    requires head { HeadHeld sink_limit head.sinks.text.now head }
+    requires has_places { HasPlace head.n xs.old ys.old required.old weights.old × HasVertices head.n parents.old xs.old ys.old }
+    requires has_room { HasRoom head.n first.old second.old queue.old slacks.old }
+    ensures accepted { over_outcome result head.entry.header head.entry.n xs.new ys.new required.new weights.new parents.new ≡ accepted_over head.entry.sinks.text.now listing.now }
+    ensures held { OnOk result (HoldsNet head.entry.header head.entry.n xs.new ys.new required.new × HoldsWeights head.entry.n weights.new) }
+{
+    read_rest(head, xs, ys, required, weights)?;
+    accept(
+        head.header,
+        head.n,
+        xs,
+        ys,
+        required,
+        parents,
+        first,
+        second,
+        queue,
+        slacks,
+        listing,
+    )
 }

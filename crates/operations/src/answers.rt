@@ -1,28 +1,19 @@
-// The answers of plan and judge.
-use formats::refusal::Refusal;
+// The answers of the plans and of judge, where nothing is refused.
 use quantities::length::Length;
 use quantities::time::Time;
 
-#[derive(Clone, Copy)]
-pub enum PlanAnswer {
-    Planned {
-        slack: Time,
-        wire: Length,
-        bytes: usize,
-    },
-    PlanRefused {
-        refusal: Refusal,
-    },
+// A listing that was written: its slack and wire, and how many bytes it has.
+#[derive(Clone, Copy, Debug, PartialEq, Eq)]
+pub struct Planned {
+    pub slack: Time,
+    pub wire: Length,
+    pub bytes: usize,
 }
 
-#[derive(Clone, Copy)]
-pub enum JudgeAnswer {
-    Judged {
-        slack: Time,
-        wire: Length,
-        best: Time,
-    },
-    JudgeRefused {
-        refusal: Refusal,
-    },
+// The measures of an accepted listing, and the net's Kraft maximum.
+#[derive(Clone, Copy, Debug, PartialEq, Eq)]
+pub struct Judged {
+    pub slack: Time,
+    pub wire: Length,
+    pub best: Time,
 }

@@ -4,3 +4,4 @@
 pub mod accept;
 pub mod answers;
 pub mod emit;
+pub mod planner;

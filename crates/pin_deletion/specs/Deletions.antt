@@ -1,5 +1,5 @@
 -- What the deletion of a pin answers, for all bytes: 02, request 9. Definitions alone.
-use Rattle.std.specs.Prelude.{ℕ, Bool, true, false, ◌&&◌, ◌||◌, List, [], length, eqb, ltb, leb}
+use Rattle.std.specs.Prelude.{ℕ, Bool, true, false, ◌&&◌, ◌||◌, List, [], length, eqb, ltb, leb, Result, Ok, Err}
 use Rattle.tree.specs.Net.{Net, size}
 use Rattle.tree.specs.Tree.{Tree}
 use Rattle.formats.specs.Refusals.{told}
@@ -7,12 +7,12 @@ use Rattle.formats.specs.Outcome.{Outcome, value, refused, and_then}
 use Rattle.formats.specs.NetText.{net_text}
 use Rattle.formats.specs.ListingText.{listing_text}
 use Rattle.formats.specs.Reading.Nets.{read_weighted}
+use Rattle.formats.specs.declared.refusal.Refusal.{Refusal}
 use Rattle.formats.specs.declared.refusal.Refusal.TheVariants.{TooShort, NotASink, OnlySink}
 use Rattle.operations.specs.Accepting.{accept_listing}
 use Rattle.operations.specs.Answers.{stated, overwritten}
 use Rattle.shorter_tree.specs.Deletion.{without, weights_without, pruned}
-use Rattle.pin_deletion.specs.declared.delete_pin.DeletionAnswer.{DeletionAnswer}
-use Rattle.pin_deletion.specs.declared.delete_pin.DeletionAnswer.TheVariants.{Deleted, DeletionRefused}
+use Rattle.pin_deletion.specs.declared.delete_pin.Deleted.{Deleted}
 
 -- ---- the two texts
 
@@ -71,9 +71,9 @@ listing_output net listing s net_out listing_out = overwritten (listing_bytes_of
 -- ---- the answer of the function, and its figures
 
 -- "both byte counts are returned"
-abbrev pub deletion_answer : Outcome Shorter → DeletionAnswer
-deletion_answer (value t) = Deleted (length t.net) (length t.listing)
-deletion_answer (refused e) = DeletionRefused e
+abbrev pub deletion_answer : Outcome Shorter → Result Deleted Refusal
+deletion_answer (value t) = Ok (record { net_bytes = length t.net; listing_bytes = length t.listing })
+deletion_answer (refused e) = Err e
 
 -- "Where nothing is refused, number, text and line are 0." "All figures except number, text and line are then 0"
 pub record DeletionFigures : Type 0 where
@@ -83,6 +83,6 @@ pub record DeletionFigures : Type 0 where
   pub net_bytes : ℕ
   pub listing_bytes : ℕ
 
-abbrev pub deletion_figures : DeletionAnswer → DeletionFigures
-deletion_figures (Deleted net listing) = record { number = 0; text = 0; line = 0; net_bytes = net; listing_bytes = listing }
-deletion_figures (DeletionRefused e) = record { number = (told e).number; text = (told e).text; line = (told e).line; net_bytes = 0; listing_bytes = 0 }
+abbrev pub deletion_figures : Result Deleted Refusal → DeletionFigures
+deletion_figures (Ok d) = record { number = 0; text = 0; line = 0; net_bytes = d.net_bytes; listing_bytes = d.listing_bytes }
+deletion_figures (Err e) = record { number = (told e).number; text = (told e).text; line = (told e).line; net_bytes = 0; listing_bytes = 0 }

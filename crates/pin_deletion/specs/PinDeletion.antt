@@ -1,5 +1,5 @@
 -- What 02's request 9 promises of a deletion, in one statement.
-use Rattle.std.specs.Prelude.{ℕ, ◌≤◌, ◌<◌, ◌≡◌, ◌≢◌, ◌⊎◌, ◌↔◌, List, length, take, drop}
+use Rattle.std.specs.Prelude.{ℕ, ◌≤◌, ◌<◌, ◌≡◌, ◌≢◌, ◌⊎◌, ◌↔◌, List, length, take, drop, Result}
 use Rattle.tree.specs.Net.{Net, size, own_slacks}
 use Rattle.tree.specs.Tree.{Tree, LegalTree}
 use Rattle.tree.specs.Measures.{worst_slack, wire_length}
@@ -15,7 +15,7 @@ use Rattle.operations.specs.Refusing.{JudgeRefuses}
 use Rattle.shorter_tree.specs.Deletion.{without, weights_without, pruned}
 use Rattle.shorter_tree.specs.Kept.{Deletable, Kept}
 use Rattle.pin_deletion.specs.Deletions.{Shorter, shorter, deletion_of, net_bytes_of, listing_bytes_of, net_output, listing_output, deletion_figures}
-use Rattle.pin_deletion.specs.declared.delete_pin.DeletionAnswer.{DeletionAnswer}
+use Rattle.pin_deletion.specs.declared.delete_pin.Deleted.{Deleted}
 
 -- ---- two texts
 
@@ -76,4 +76,4 @@ pub record PinDeletion : Type 0 where
   pub judge_never : (net listing : List ℕ) (e : Refusal) → judge_of net listing ≡ refused e → (e ≢ TooShort) × (e ≢ NotASink) × (e ≢ OnlySink)
   pub outputs : (net listing : List ℕ) (s : ℕ) (net_out listing_out : List ℕ) → Outputs net listing s net_out listing_out
   -- the figures that a caller gets tell the answers apart
-  pub figures : (a b : DeletionAnswer) → deletion_figures a ≡ deletion_figures b → a ≡ b
+  pub figures : (a b : Result Deleted Refusal) → deletion_figures a ≡ deletion_figures b → a ≡ b

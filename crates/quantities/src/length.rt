@@ -1,8 +1,10 @@
 // Lengths of wire, in nanometres.
-ghost use Rattle.std.specs.Prelude.{◌≡◌, ◌+◌, ◌≤◌, ltb, eqb};
+ghost use Rattle.std.specs.Prelude.{◌≡◌, ◌+◌, ◌≤◌};
 ghost use Rattle.quantities.specs.Inner.Reach.{length_reach};
 
-#[derive(Clone, Copy)]
+use std::ops::Add;
+
+#[derive(Clone, Copy, Debug, PartialEq, Eq, PartialOrd, Ord)]
 pub struct Length(u64);
 
 impl Length {
@@ -19,23 +21,16 @@ impl Length {
     {
         self.0
     }
+}
 
-    pub fn plus(self, other: Length) -> Self
-        requires { (self.0 ≤ length_reach) × (other.0 ≤ length_reach) }
-        ensures { result.0 ≡ self.0 + other.0 }
-    {
+impl Add for Length {
+    type Output = Length;
+
+    ghost can_add = { λ a b. (a.0 ≤ length_reach) × (b.0 ≤ length_reach) };
+
+    ghost add_gives = { λ a b r. r.0 ≡ a.0 + b.0 };
+
+    fn add(self, other: Length) -> Length {
         Length(self.0 + other.0)
-    }
-
-    pub fn is_less(self, other: Length) -> bool
-        ensures { result ≡ ltb self.0 other.0 }
-    {
-        self.0 < other.0
-    }
-
-    pub fn is_same(self, other: Length) -> bool
-        ensures { result ≡ eqb self.0 other.0 }
-    {
-        self.0 == other.0
     }
 }

@@ -8,7 +8,7 @@ use crate::point::{Point, span};
 use crate::time::Time;
 use crate::wire_factor::WireFactor;
 
-#[derive(Clone, Copy)]
+#[derive(Clone, Copy, Debug, PartialEq, Eq)]
 pub struct MetalPair {
     pub horizontal: WireFactor,
     pub vertical: WireFactor,
@@ -22,6 +22,6 @@ impl MetalPair {
     {
         let across = self.horizontal.delay(span(p.x, q.x));
         let upward = self.vertical.delay(span(p.y, q.y));
-        across.plus(upward)
+        across + upward
     }
 }

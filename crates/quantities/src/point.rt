@@ -8,7 +8,7 @@ ghost use Rattle.quantities.specs.Median.{median, median_point};
 use crate::length::Length;
 
 // A position in nanometres. Its coordinates are no lengths: they may be negative.
-#[derive(Clone, Copy)]
+#[derive(Clone, Copy, Debug, PartialEq, Eq)]
 pub struct Point {
     pub x: i64,
     pub y: i64,
@@ -19,39 +19,21 @@ pub fn span(a: i64, b: i64) -> Length
     requires { Within coordinate_reach a × Within coordinate_reach b }
     ensures { result.0 ≡ span a b }
 {
-    if a < b {
-        Length::of((b - a) as u64)
-    } else {
-        Length::of((a - b) as u64)
-    }
+    Length::of(a.abs_diff(b))
 }
 
 pub fn distance(p: Point, q: Point) -> Length
     requires { PointWithin coordinate_reach p × PointWithin coordinate_reach q }
     ensures { result.0 ≡ distance p q }
 {
-    span(p.x, q.x).plus(span(p.y, q.y))
+    span(p.x, q.x) + span(p.y, q.y)
 }
 
 // The middle one of three coordinates.
 pub fn median(a: i64, b: i64, c: i64) -> i64
     ensures { result ≡ median a b c }
 {
-    if a < b {
-        if b < c {
-            b
-        } else if a < c {
-            c
-        } else {
-            a
-        }
-    } else if a < c {
-        a
-    } else if b < c {
-        c
-    } else {
-        b
-    }
+    a.min(b).max(a.max(b).min(c))
 }
 
 // The coordinate-wise median of three positions.

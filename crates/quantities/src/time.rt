@@ -1,11 +1,11 @@
-// Times, in attoseconds: arrivals, delays and slacks.
-ghost use Rattle.std.specs.Prelude.{◌&&◌, ◌≡◌, ◌≤◌, pos, ◌+ℤ◌, ◌-ℤ◌, ◌*ℤ◌};
-ghost use Rattle.std.specs.Int.Signed.{lt_z, le_z};
+// Times, in attoseconds: arrivals, delays and slacks. Which is earlier, and the least of two, are those of their numbers.
+ghost use Rattle.std.specs.Prelude.{◌≡◌, ◌≤◌, pos, ◌+ℤ◌, ◌-ℤ◌, ◌*ℤ◌};
 ghost use Rattle.quantities.specs.Ranges.{Within};
 ghost use Rattle.quantities.specs.Inner.Reach.{time_reach, factor_reach, term_reach};
-ghost use Rattle.quantities.specs.MinMax.{min_ℤ, max_ℤ};
 
-#[derive(Clone, Copy)]
+use std::ops::{Add, Mul, Sub};
+
+#[derive(Clone, Copy, Debug, PartialEq, Eq, PartialOrd, Ord)]
 pub struct Time(i64);
 
 impl Time {
@@ -21,50 +21,41 @@ impl Time {
     {
         self.0
     }
+}
 
-    pub fn plus(self, other: Time) -> Self
-        requires { Within time_reach self.0 × Within time_reach other.0 }
-        ensures { result.0 ≡ self.0 +ℤ other.0 }
-    {
+impl Add for Time {
+    type Output = Time;
+
+    ghost can_add = { λ a b. Within time_reach a.0 × Within time_reach b.0 };
+
+    ghost add_gives = { λ a b r. r.0 ≡ a.0 +ℤ b.0 };
+
+    fn add(self, other: Time) -> Time {
         Time(self.0 + other.0)
     }
+}
 
-    pub fn minus(self, other: Time) -> Self
-        requires { Within time_reach self.0 × Within time_reach other.0 }
-        ensures { result.0 ≡ self.0 -ℤ other.0 }
-    {
+impl Sub for Time {
+    type Output = Time;
+
+    ghost can_sub = { λ a b. Within time_reach a.0 × Within time_reach b.0 };
+
+    ghost sub_gives = { λ a b r. r.0 ≡ a.0 -ℤ b.0 };
+
+    fn sub(self, other: Time) -> Time {
         Time(self.0 - other.0)
     }
+}
 
-    // The time of `count` delays like this one.
-    pub fn times(self, count: u64) -> Self
-        requires { Within term_reach self.0 × (count ≤ factor_reach) }
-        ensures { result.0 ≡ self.0 *ℤ pos count }
-    {
+// The time of so many delays like this one.
+impl Mul<u64> for Time {
+    type Output = Time;
+
+    ghost can_mul = { λ a count. Within term_reach a.0 × (count ≤ factor_reach) };
+
+    ghost mul_gives = { λ a count r. r.0 ≡ a.0 *ℤ pos count };
+
+    fn mul(self, count: u64) -> Time {
         Time(self.0 * count as i64)
-    }
-
-    pub fn is_less(self, other: Time) -> bool
-        ensures { result ≡ lt_z self.0 other.0 }
-    {
-        self.0 < other.0
-    }
-
-    pub fn is_same(self, other: Time) -> bool
-        ensures { result ≡ (le_z self.0 other.0 && le_z other.0 self.0) }
-    {
-        self.0 == other.0
-    }
-
-    pub fn least(self, other: Time) -> Self
-        ensures { result.0 ≡ min_ℤ self.0 other.0 }
-    {
-        if other.0 < self.0 { other } else { self }
-    }
-
-    pub fn greatest(self, other: Time) -> Self
-        ensures { result.0 ≡ max_ℤ self.0 other.0 }
-    {
-        if self.0 < other.0 { other } else { self }
     }
 }

@@ -7,7 +7,7 @@ ghost use Rattle.quantities.specs.Inner.Reach.{factor_reach, coordinate_reach};
 use crate::length::Length;
 use crate::time::Time;
 
-#[derive(Clone, Copy)]
+#[derive(Clone, Copy, Debug, PartialEq, Eq)]
 pub struct WireFactor(u64);
 
 impl WireFactor {

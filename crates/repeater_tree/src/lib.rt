@@ -2,54 +2,57 @@
 #![tactic(auto)]
 
 ghost use Rattle.std.specs.Prelude.{◌≡◌, length};
-ghost use Rattle.operations.specs.Answers.{plan_of, plan_output, plan_answer, plan_figures, judge_of, judge_answer, judge_figures};
+ghost use Rattle.formats.specs.Refusals.{told};
+ghost use Rattle.operations.specs.Answers.{bytes_of, overwritten, plan_of, plan_output, plan_answer, plan_figures, judge_of, judge_answer, judge_figures};
 ghost use Rattle.pin_deletion.specs.Deletions.{deletion_of, net_output, listing_output, deletion_answer, deletion_figures};
 ghost use Rattle.scoring.specs.Scores.{score_of, score_answer, score_figures};
 ghost use Rattle.short_tree.specs.SecondPlan.{short_of, short_output};
 ghost use Rattle.weighted_tree.specs.ThirdPlan.{weighted_of, weighted_output};
 
-use first_plan::plan::plan;
-use formats::refusal::tell;
+use first_plan::plan::FirstPlan;
+use formats::refusal::Refusal;
 use judging::judge::judge;
-use operations::answers::{JudgeAnswer, PlanAnswer};
-use pin_deletion::delete_pin::{DeletionAnswer, delete_pin};
-use scoring::score::ScoreAnswer;
-use short_tree::plan_short::plan_short;
-use weighted_tree::plan_weighted::plan_weighted;
+use operations::planner::Planner;
+use pin_deletion::delete_pin::delete_pin;
+use short_tree::plan_short::ShortTree;
+use weighted_tree::plan_weighted::WeightedTree;
+
+// What is told of a refusal. Its number is returned.
+fn refuse(refusal: Refusal, text: &mut u8, line: &mut usize) -> u8
+    ensures { (record { number = result; text = text.new; line = line.new }) ≡ told refusal }
+{
+    let told = refusal.told();
+    *text = told.text;
+    *line = told.line;
+    told.number
+}
 
 // The figures of what a plan answers, each through its reference. The number of the refusal is returned, 0 where nothing is refused.
-fn give(
-    answer: PlanAnswer,
+fn plan_figures<P: Planner>(
+    net: &[u8],
+    out: &mut [u8],
     text: &mut u8,
     line: &mut usize,
     slack: &mut i64,
     wire: &mut u64,
     bytes: &mut usize,
 ) -> u8
-    ensures { (record { number = result; text = text.new; line = line.new; slack = slack.new; wire = wire.new; bytes = bytes.new }) ≡ plan_figures answer }
+    ensures figures { (record { number = result; text = text.new; line = line.new; slack = slack.new; wire = wire.new; bytes = bytes.new }) ≡ plan_figures (plan_answer (P.answers net.now (length out.old))) }
+    ensures output { out.new ≡ overwritten (bytes_of (P.answers net.now (length out.old))) out.old }
 {
-    match answer {
-        PlanAnswer::Planned {
-            slack: worst,
-            wire: total,
-            bytes: written,
-        } => {
-            *text = 0;
-            *line = 0;
-            *slack = worst.attoseconds();
-            *wire = total.nanometres();
-            *bytes = written;
+    *text = 0;
+    *line = 0;
+    *slack = 0;
+    *wire = 0;
+    *bytes = 0;
+    match P::plan(net, out) {
+        Ok(planned) => {
+            *slack = planned.slack.attoseconds();
+            *wire = planned.wire.nanometres();
+            *bytes = planned.bytes;
             0
         }
-        PlanAnswer::PlanRefused { refusal } => {
-            let told = tell(refusal);
-            *text = told.text;
-            *line = told.line;
-            *slack = 0;
-            *wire = 0;
-            *bytes = 0;
-            told.number
-        }
+        Err(refusal) => refuse(refusal, text, line),
     }
 }
 
@@ -66,8 +69,7 @@ pub fn repeater_tree_plan(
     ensures figures { (record { number = result; text = text.new; line = line.new; slack = slack.new; wire = wire.new; bytes = bytes.new }) ≡ plan_figures (plan_answer (plan_of net.now (length out.old))) }
     ensures output { out.new ≡ plan_output net.now out.old }
 {
-    let answer = plan(net, out);
-    give(answer, text, line, slack, wire, bytes)
+    plan_figures::<FirstPlan>(net, out, text, line, slack, wire, bytes)
 }
 
 // Plans the short tree of a net.
@@ -83,8 +85,7 @@ pub fn repeater_tree_plan_short(
     ensures figures { (record { number = result; text = text.new; line = line.new; slack = slack.new; wire = wire.new; bytes = bytes.new }) ≡ plan_figures (plan_answer (short_of net.now (length out.old))) }
     ensures output { out.new ≡ short_output net.now out.old }
 {
-    let answer = plan_short(net, out);
-    give(answer, text, line, slack, wire, bytes)
+    plan_figures::<ShortTree>(net, out, text, line, slack, wire, bytes)
 }
 
 // Plans the tree of a net by its switching weights.
@@ -100,8 +101,7 @@ pub fn repeater_tree_plan_weighted(
     ensures figures { (record { number = result; text = text.new; line = line.new; slack = slack.new; wire = wire.new; bytes = bytes.new }) ≡ plan_figures (plan_answer (weighted_of net.now (length out.old))) }
     ensures output { out.new ≡ weighted_output net.now out.old }
 {
-    let answer = plan_weighted(net, out);
-    give(answer, text, line, slack, wire, bytes)
+    plan_figures::<WeightedTree>(net, out, text, line, slack, wire, bytes)
 }
 
 // Judges a listing. The number of the refusal is returned, 0 where nothing is refused.
@@ -116,28 +116,19 @@ pub fn repeater_tree_judge(
 ) -> u8
     ensures { (record { number = result; text = text.new; line = line.new; slack = slack.new; wire = wire.new; best = best.new }) ≡ judge_figures (judge_answer (judge_of net.now listing.now)) }
 {
+    *text = 0;
+    *line = 0;
+    *slack = 0;
+    *wire = 0;
+    *best = 0;
     match judge(net, listing) {
-        JudgeAnswer::Judged {
-            slack: worst,
-            wire: total,
-            best: maximum,
-        } => {
-            *text = 0;
-            *line = 0;
-            *slack = worst.attoseconds();
-            *wire = total.nanometres();
-            *best = maximum.attoseconds();
+        Ok(judged) => {
+            *slack = judged.slack.attoseconds();
+            *wire = judged.wire.nanometres();
+            *best = judged.best.attoseconds();
             0
         }
-        JudgeAnswer::JudgeRefused { refusal } => {
-            let told = tell(refusal);
-            *text = told.text;
-            *line = told.line;
-            *slack = 0;
-            *wire = 0;
-            *best = 0;
-            told.number
-        }
+        Err(refusal) => refuse(refusal, text, line),
     }
 }
 
@@ -154,20 +145,15 @@ pub fn repeater_tree_score(
 ) -> u8
     ensures { (record { number = result; text = text.new; line = line.new; score = score.new }) ≡ score_figures (score_answer (score_of net.now listing.now alpha_1024ths beta_1024ths cap)) }
 {
+    *text = 0;
+    *line = 0;
+    *score = 0.0;
     match scoring::score::score(net, listing, alpha_1024ths, beta_1024ths, cap) {
-        ScoreAnswer::Scored { score: given } => {
-            *text = 0;
-            *line = 0;
+        Ok(given) => {
             *score = given;
             0
         }
-        ScoreAnswer::ScoreRefused { refusal } => {
-            let told = tell(refusal);
-            *text = told.text;
-            *line = told.line;
-            *score = 0.0;
-            told.number
-        }
+        Err(refusal) => refuse(refusal, text, line),
     }
 }
 
@@ -187,24 +173,16 @@ pub fn repeater_tree_delete_pin(
     ensures net { net_out.new ≡ net_output net.now listing.now sink net_out.old listing_out.old }
     ensures listing { listing_out.new ≡ listing_output net.now listing.now sink net_out.old listing_out.old }
 {
+    *text = 0;
+    *line = 0;
+    *net_bytes = 0;
+    *listing_bytes = 0;
     match delete_pin(net, listing, sink, net_out, listing_out) {
-        DeletionAnswer::Deleted {
-            net_bytes: net_written,
-            listing_bytes: listing_written,
-        } => {
-            *text = 0;
-            *line = 0;
-            *net_bytes = net_written;
-            *listing_bytes = listing_written;
+        Ok(deleted) => {
+            *net_bytes = deleted.net_bytes;
+            *listing_bytes = deleted.listing_bytes;
             0
         }
-        DeletionAnswer::DeletionRefused { refusal } => {
-            let told = tell(refusal);
-            *text = told.text;
-            *line = told.line;
-            *net_bytes = 0;
-            *listing_bytes = 0;
-            told.number
-        }
+        Err(refusal) => refuse(refusal, text, line),
     }
 }

@@ -1,5 +1,5 @@
 -- What 02's request 8 promises of the router's score, in one statement.
-use Rattle.std.specs.Prelude.{ℕ, ◌≡◌, ◌↔◌, List, ℤ, pos, neg_ℤ, ◌≤ℤ◌}
+use Rattle.std.specs.Prelude.{ℕ, ◌≡◌, ◌↔◌, List, ℤ, pos, neg_ℤ, ◌≤ℤ◌, Float, Result}
 use Rattle.std.specs.Float.{binary64}
 use Rattle.std.specs.Float.Ieee.{to_bits}
 use Rattle.quantities.specs.MinMax.{min_ℤ}
@@ -12,7 +12,6 @@ use Rattle.scoring.specs.Limits.{parts, cap_limit, late_limit, FromZero}
 use Rattle.scoring.specs.Binary64.{Is1024ths, of1024ths, plus_zero}
 use Rattle.scoring.specs.Exact.{score1024ths, Exact}
 use Rattle.scoring.specs.Scores.{score_of, score_figures}
-use Rattle.scoring.specs.declared.score.ScoreAnswer.{ScoreAnswer}
 
 -- nothing is "out of range", and min(..) is not "below -1,000,000,000,000"
 pub record ScoreInRange (A B cap slack : ℤ) : Type 0 where
@@ -44,4 +43,4 @@ pub record RoutersScore : Type 0 where
   -- judge itself never tells 14
   pub judge_never : (net listing : List ℕ) → judge_of net listing ≡ refused NotScored → ⊥
   -- the figures that a caller gets tell the answers apart
-  pub figures : (a b : ScoreAnswer) → score_figures a ≡ score_figures b → a ≡ b
+  pub figures : (a b : Result Float Refusal) → score_figures a ≡ score_figures b → a ≡ b

@@ -1,16 +1,15 @@
 -- The router's score of a listing over its net, for all bytes: 02, request 8. Definitions alone.
-use Rattle.std.specs.Prelude.{ℕ, Bool, true, false, ◌&&◌, List, ℤ, pos, neg_ℤ, Float}
+use Rattle.std.specs.Prelude.{ℕ, Bool, true, false, ◌&&◌, List, ℤ, pos, neg_ℤ, Float, Result, Ok, Err}
 use Rattle.std.specs.Int.Signed.{le_z}
 use Rattle.quantities.specs.MinMax.{min_ℤ}
 use Rattle.formats.specs.Refusals.{told}
 use Rattle.formats.specs.Outcome.{Outcome, value, refused, and_then}
+use Rattle.formats.specs.declared.refusal.Refusal.{Refusal}
 use Rattle.formats.specs.declared.refusal.Refusal.TheVariants.{NotScored}
 use Rattle.operations.specs.Answers.{judge_of}
 use Rattle.scoring.specs.Limits.{parts, cap_limit, late_limit}
 use Rattle.scoring.specs.Binary64.{of1024ths, plus_zero}
 use Rattle.scoring.specs.Exact.{score1024ths}
-use Rattle.scoring.specs.declared.score.ScoreAnswer.{ScoreAnswer}
-use Rattle.scoring.specs.declared.score.ScoreAnswer.TheVariants.{Scored, ScoreRefused}
 
 -- ---- the score of a slack and a wire
 
@@ -37,9 +36,9 @@ unfoldable pub score_of : List ℕ → List ℕ → ℤ → ℤ → ℤ → Outc
 score_of net listing A B cap = and_then (judge_of net listing) λ j. scored A B cap j.slack j.wire
 
 -- the answer of the function: the score in binary64
-abbrev pub score_answer : Outcome ℤ → ScoreAnswer
-score_answer (value z) = Scored (of1024ths z)
-score_answer (refused e) = ScoreRefused e
+abbrev pub score_answer : Outcome ℤ → Result Float Refusal
+score_answer (value z) = Ok (of1024ths z)
+score_answer (refused e) = Err e
 
 -- "Where nothing is refused, number, text and line are 0." "All figures except number, text and line are then 0": the score plus zero
 pub record ScoreFigures : Type 0 where
@@ -48,6 +47,6 @@ pub record ScoreFigures : Type 0 where
   pub line : ℕ
   pub score : Float
 
-abbrev pub score_figures : ScoreAnswer → ScoreFigures
-score_figures (Scored score) = record { number = 0; text = 0; line = 0; score = score }
-score_figures (ScoreRefused e) = record { number = (told e).number; text = (told e).text; line = (told e).line; score = plus_zero }
+abbrev pub score_figures : Result Float Refusal → ScoreFigures
+score_figures (Ok score) = record { number = 0; text = 0; line = 0; score = score }
+score_figures (Err e) = record { number = (told e).number; text = (told e).text; line = (told e).line; score = plus_zero }

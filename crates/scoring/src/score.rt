@@ -8,40 +8,24 @@ use crate::limits::{CAP_LIMIT, LATE_LIMIT, PARTS};
 use crate::weights::Weights;
 use formats::refusal::Refusal;
 use judging::judge::judge_measures;
-use operations::accept::Acceptance;
-use quantities::length::Length;
 use quantities::time::Time;
-
-#[derive(Clone, Copy)]
-pub enum ScoreAnswer {
-    Scored { score: f64 },
-    ScoreRefused { refusal: Refusal },
-}
+use tree::measures::Measures;
 
 fn is_from_zero(limit: u64, z: i64) -> bool
     requires { limit ≤ cap_limit }
     ensures { result ≡ is_from_zero limit z }
 {
-    if z < 0 {
-        return false;
-    }
-    z <= limit as i64
+    0 <= z && z <= limit as i64
 }
 
 // Whether a score is given, of the lesser of slack and cap.
 fn is_scored(alpha_1024ths: i64, beta_1024ths: i64, cap: i64, capped: Time) -> bool
     ensures { result ≡ is_scored alpha_1024ths beta_1024ths cap capped.0 }
 {
-    if !is_from_zero(PARTS, alpha_1024ths) {
-        return false;
-    }
-    if !is_from_zero(PARTS, beta_1024ths) {
-        return false;
-    }
-    if !is_from_zero(CAP_LIMIT, cap) {
-        return false;
-    }
-    !capped.is_less(Time::of(0 - LATE_LIMIT as i64))
+    is_from_zero(PARTS, alpha_1024ths)
+        && is_from_zero(PARTS, beta_1024ths)
+        && is_from_zero(CAP_LIMIT, cap)
+        && capped >= Time::of(-(LATE_LIMIT as i64))
 }
 
 // The score of a tree by its measures, or 14.
@@ -49,21 +33,18 @@ fn score_measures(
     alpha_1024ths: i64,
     beta_1024ths: i64,
     cap: i64,
-    slack: Time,
-    wire: Length,
-) -> ScoreAnswer
-    requires { wire.0 ≤ wire_limit }
-    ensures { result ≡ score_answer (scored alpha_1024ths beta_1024ths cap slack.0 wire.0) }
+    measures: Measures,
+) -> Result<f64, Refusal>
+    requires { measures.wire.0 ≤ wire_limit }
+    ensures { result ≡ score_answer (scored alpha_1024ths beta_1024ths cap measures.slack.0 measures.wire.0) }
 {
-    let capped = slack.least(Time::of(cap));
+    let capped = measures.slack.min(Time::of(cap));
     if !is_scored(alpha_1024ths, beta_1024ths, cap, capped) {
-        return ScoreAnswer::ScoreRefused {
-            refusal: Refusal::NotScored,
-        };
+        return Err(Refusal::NotScored);
     }
     let weights = Weights::of(alpha_1024ths, beta_1024ths);
-    let score = weights.score(capped, wire);
-    ScoreAnswer::Scored { score }
+    let score = weights.score(capped, measures.wire);
+    Ok(score)
 }
 
 // Any two texts and any three numbers get an answer.
@@ -73,17 +54,9 @@ pub fn score(
     alpha_1024ths: i64,
     beta_1024ths: i64,
     cap: i64,
-) -> ScoreAnswer
+) -> Result<f64, Refusal>
     ensures { result ≡ score_answer (score_of net.now listing.now alpha_1024ths beta_1024ths cap) }
 {
-    match judge_measures(net, listing) {
-        Acceptance::NotAccepted { refusal } => ScoreAnswer::ScoreRefused { refusal },
-        Acceptance::AcceptedListing { slack, wire } => score_measures(
-            alpha_1024ths,
-            beta_1024ths,
-            cap,
-            slack,
-            wire,
-        ),
-    }
+    let measures = judge_measures(net, listing)?;
+    score_measures(alpha_1024ths, beta_1024ths, cap, measures)
 }

@@ -8,6 +8,7 @@ pub mod Choice
 pub mod Star
 pub mod Theorem2
 pub mod Ranges
+pub mod Edges
 pub mod EdgeSearch
 pub mod SinkSearch
 pub mod Renewing

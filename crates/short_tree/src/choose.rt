@@ -1,12 +1,14 @@
 // Which sink goes first, and which goes in next. The edge kept for a sink may have become dearer since; only a sink that could go in next looks for its
 // cheapest edge anew.
-ghost use Rattle.std.specs.Prelude.{◌≡◌, ℕ, suc, ◌+◌, ◌≤◌, ◌<◌, cond, false, ltb, leb, eqb, length, get_or};
+// `kept` has the lower end of that edge, and 0 for a vertex that does not wait: numbers and no options, since it is one array of places in fixed memory, which
+// is emptied by a fill and holds first children once the tree is made. For the same reason `kept` and `costs` stay two arrays that are lent side by side.
+ghost use Rattle.std.specs.Prelude.{◌≡◌, ℕ, suc, ◌+◌, ◌≤◌, ◌<◌, cond, ltb, length, get_or, IfSome};
 ghost use Rattle.quantities.specs.Distance.{distance};
 ghost use Rattle.tree.specs.Inner.Arrays.{point_at, Points};
 ghost use Rattle.short_tree.specs.Inner.Searching.{First};
-ghost use Rattle.short_tree.specs.Inner.Arrays.{Reaches, Waits, Inside, Cheapest, Kept, AllKept, SameZeros, SameBut, Looked, Chosen};
+ghost use Rattle.short_tree.specs.Inner.Arrays.{Waits, Inside, Cheapest, Kept, AllKept, SameZeros, SameBut, Looked, behind, Chosen};
 
-use crate::edge::{cheapest_edge, edge_to};
+use crate::edge::Grown;
 use quantities::length::Length;
 use quantities::point::distance;
 use tree::measure::point;
@@ -19,10 +21,7 @@ fn nearer(xs: &[i64], ys: &[i64], best: usize, s: usize) -> usize
     let root = point(xs, ys, 0);
     let old = distance(root, point(xs, ys, best));
     let new = distance(root, point(xs, ys, s));
-    if new.is_less(old) {
-        return s;
-    }
-    best
+    if new < old { s } else { best }
 }
 
 // The sink nearest to the root, the lowest number on a tie.
@@ -31,101 +30,77 @@ pub fn nearest_sink(n: usize, xs: &[i64], ys: &[i64]) -> usize
     ensures { First (λ u. distance (point_at xs.now ys.now 0) (point_at xs.now ys.now u)) (λ u. (1 ≤ u) × (u ≤ n)) result }
 {
     let mut best = 1;
-    let mut s = 2;
-    while s <= n {
+    for s in 2..=n {
         best = nearer(xs, ys, best, s);
-        s += 1;
     }
     best
 }
 
-// Whether sink s goes behind the best so far, which has the lower number; 0 of none.
-fn is_behind(best: usize, costs: &[u64], s: usize) -> bool
-    requires { (best < length costs.now) × (s < length costs.now) }
-    ensures { result ≡ cond (eqb best 0) false (leb (get_or costs.now best 0) (get_or costs.now s 0)) }
+// Whether sink s goes behind the best so far, which has the lower number.
+fn is_behind(best: Option<usize>, costs: &[u64], s: usize) -> bool
+    requires { IfSome best (λ b. b < length costs.now) × (s < length costs.now) }
+    ensures { result ≡ behind costs.now s best }
 {
-    best != 0 && costs[best] <= costs[s]
+    match best {
+        Some(b) => costs[b] <= costs[s],
+        None => false,
+    }
 }
 
 // Sees to it that the edge kept for sink s is its cheapest: it is, unless s adds more there by now than was kept.
-fn find_edge(
-    last: usize,
-    kept: &mut [usize],
-    costs: &mut [u64],
-    parents: &[usize],
-    xs: &[i64],
-    ys: &[i64],
-    s: usize,
-)
-    requires reaches { Reaches last parents.now xs.now ys.now × (last < length kept.old) × (s ≤ last) × (s < length costs.old) }
-    requires kept { Kept (Inside last kept.old) parents.now xs.now ys.now kept.old costs.old s }
-    ensures found { Cheapest (Inside last kept.old) parents.now xs.now ys.now s (get_or kept.new s 0) (get_or costs.new s 0) }
+fn find_edge(tree: Grown, kept: &mut [usize], costs: &mut [u64], s: usize)
+    requires in_bounds { (tree.last < length kept.old) × (s ≤ tree.last) × (s < length costs.old) }
+    requires kept { Kept (Inside tree.last kept.old) tree.parents.now tree.xs.now tree.ys.now kept.old costs.old s }
+    ensures found { let t = tree.entry in Cheapest (Inside t.last kept.old) t.parents.now t.xs.now t.ys.now s (get_or kept.new s 0) (get_or costs.new s 0) }
     ensures others { SameBut s kept.old kept.new × SameBut s costs.old costs.new }
 {
     let v = kept[s];
-    let here = edge_to(parents, xs, ys, s, v);
-    let added = here.added;
-    if Length::of(costs[s]).is_less(added) {
-        let found = cheapest_edge(last, kept, parents, xs, ys, s, v);
-        let lower = found.lower;
-        let cost = found.added;
-        kept[s] = lower;
-        costs[s] = cost.nanometres();
+    if Length::of(costs[s]) < tree.edge_to(s, v).added {
+        let found = tree.cheapest_edge(kept, s, v);
+        kept[s] = found.lower;
+        costs[s] = found.added.nanometres();
     }
 }
 
-// The better of the best sink so far (0 of none) and sink s, which has a higher number.
+// The better of the best sink so far and sink s, which has a higher number.
 fn better_sink(
-    best: usize,
+    tree: Grown,
     n: usize,
-    last: usize,
     kept: &mut [usize],
     costs: &mut [u64],
-    parents: &[usize],
-    xs: &[i64],
-    ys: &[i64],
+    best: Option<usize>,
     s: usize,
-) -> usize
-    requires reaches { Reaches last parents.now xs.now ys.now × (last < length kept.old) × (n ≤ last) × (n < length costs.old) × (1 ≤ s) × (s ≤ n) × (best < s) }
-    requires all_kept { AllKept n last parents.now xs.now ys.now kept.old costs.old × Looked parents.now xs.now ys.now kept.old costs.old s best }
-    ensures kept { AllKept n last parents.now xs.now ys.now kept.new costs.new }
-    ensures looked { Looked parents.now xs.now ys.now kept.new costs.new (s + 1) result × (result ≤ s) }
+) -> Option<usize>
+    requires in_bounds { (tree.last < length kept.old) × (n ≤ tree.last) × (n < length costs.old) × (1 ≤ s) × (s ≤ n) }
+    requires all_kept { AllKept n tree.last tree.parents.now tree.xs.now tree.ys.now kept.old costs.old }
+    requires looked { Looked tree.parents.now tree.xs.now tree.ys.now kept.old costs.old s best }
+    ensures kept { let t = tree.entry in AllKept n t.last t.parents.now t.xs.now t.ys.now kept.new costs.new }
+    ensures looked { let t = tree.entry in Looked t.parents.now t.xs.now t.ys.now kept.new costs.new (s + 1) result }
     ensures zeros { SameZeros kept.old kept.new }
 {
-    if kept[s] == 0 {
+    if kept[s] == 0 || is_behind(best, costs, s) {
         return best;
     }
+    find_edge(tree, kept, costs, s);
     if is_behind(best, costs, s) {
-        return best;
+        best
+    } else {
+        Some(s)
     }
-    find_edge(last, kept, costs, parents, xs, ys, s);
-    if is_behind(best, costs, s) {
-        return best;
-    }
-    s
 }
 
 // Of the sinks that wait, the one that goes in next: the lowest of those that add least. The edge kept for it is its cheapest.
-pub fn next_sink(
-    n: usize,
-    last: usize,
-    kept: &mut [usize],
-    costs: &mut [u64],
-    parents: &[usize],
-    xs: &[i64],
-    ys: &[i64],
-) -> usize
-    requires reaches { Reaches last parents.now xs.now ys.now × (last < length kept.old) × (n ≤ last) × (n < length costs.old) × ((s : ℕ) × Waits n kept.old s) }
-    requires all_kept { AllKept n last parents.now xs.now ys.now kept.old costs.old }
-    ensures kept { AllKept n last parents.now xs.now ys.now kept.new costs.new }
-    ensures chosen { Chosen n parents.now xs.now ys.now kept.new costs.new result }
+pub fn next_sink(tree: Grown, n: usize, kept: &mut [usize], costs: &mut [u64]) -> usize
+    requires in_bounds { (tree.last < length kept.old) × (n ≤ tree.last) × (n < length costs.old) × ((s : ℕ) × Waits n kept.old s) }
+    requires all_kept { AllKept n tree.last tree.parents.now tree.xs.now tree.ys.now kept.old costs.old }
+    ensures kept { let t = tree.entry in AllKept n t.last t.parents.now t.xs.now t.ys.now kept.new costs.new }
+    ensures chosen { let t = tree.entry in Chosen n t.parents.now t.xs.now t.ys.now kept.new costs.new result }
     ensures zeros { SameZeros kept.old kept.new }
 {
-    let mut best = 0;
-    let mut s = 1;
-    while s <= n {
-        best = better_sink(best, n, last, kept, costs, parents, xs, ys, s);
-        s += 1;
+    let mut best = None;
+    for s in 1..=n {
+        best = better_sink(tree, n, kept, costs, best, s);
     }
-    best
+    // One waits, so there is a best.
+    best.unwrap_or(0)
 }

@@ -1,40 +1,22 @@
 // A net, its weights and its tree close up in the arrays that hold them, in place: what is read was never written, since no new number is above the old one.
-ghost use Rattle.std.specs.Prelude.{ℕ, ◌*◌, ◌≤◌, ◌<◌, ◌≡◌, length, get_or, pos};
+ghost use Rattle.std.specs.Prelude.{ℕ, ◌*◌, ◌≤◌, ◌<◌, ◌≡◌, length, get_or};
 ghost use Rattle.tree.specs.Limits.{sink_limit};
 ghost use Rattle.tree.specs.Tree.{Legal};
 ghost use Rattle.tree.specs.Inner.Arrays.{parents_of, Parents};
-ghost use Rattle.shorter_tree.specs.Deletion.{renumber, above};
-ghost use Rattle.shorter_tree.specs.Inner.Arrays.{old, Closed, HoldsShorter};
+ghost use Rattle.shorter_tree.specs.Inner.Arrays.{old, HoldsShorter};
 
 use crate::numbers::{above_gone, new_number, old_number};
 
-// What stands at the places of the vertices that remain moves to their new numbers, below m.
-fn close_up(values: &mut [i64], s: usize, b: usize, m: usize)
-    requires { (1 ≤ s) × (s < b) × (m ≤ 2 * sink_limit) × (m ≤ length values.old) × ((x : ℕ) → x < m → old s b x < length values.old) }
-    ensures closed { Closed (pos 0) (λ z. z) s b m values.old values.new }
-    ensures first { get_or values.new 0 (pos 0) ≡ get_or values.old 0 (pos 0) }
+// What stands at the places of the vertices that remain moves to their new numbers, below m, and f of it stands there.
+fn close_up<T: Copy, F: Fn(T) -> T>(values: &mut [T], s: usize, b: usize, m: usize, f: F)
+    requires numbers { (1 ≤ s) × (s < b) × (m ≤ 2 * sink_limit) × (m ≤ length values.old) × ((x : ℕ) → x < m → old s b x < length values.old) }
+    requires callable { F.IsAlwaysCallable f }
+    ensures closed { (x : ℕ) (d : T) → 1 ≤ x → x < m → F.post f (get_or values.old (old s b x) d) (get_or values.new x d) }
+    ensures first { (d : T) → get_or values.new 0 d ≡ get_or values.old 0 d }
 {
-    let mut x = 1;
-    while x < m {
+    for x in 1..m {
         let v = old_number(s, b, x);
-        let z = values[v];
-        values[x] = z;
-        x += 1;
-    }
-}
-
-// The parents likewise, renumbered; what hung on b hangs on a.
-fn close_up_parents(parents: &mut [usize], s: usize, b: usize, a: usize, m: usize)
-    requires { (1 ≤ s) × (s < b) × (m ≤ 2 * sink_limit) × (m ≤ length parents.old) × ((x : ℕ) → x < m → old s b x < length parents.old) }
-    ensures { Closed 0 (λ u. renumber s b (above b a u)) s b m parents.old parents.new }
-{
-    let mut x = 1;
-    while x < m {
-        let v = old_number(s, b, x);
-        let u = parents[v];
-        let upper = above_gone(b, a, u);
-        parents[x] = new_number(s, b, upper);
-        x += 1;
+        values[x] = f(values[v]);
     }
 }
 
@@ -55,9 +37,9 @@ pub fn close_up_all(
     let b = parents[s];
     let a = parents[b];
     let m = 2 * n - 2;
-    close_up_parents(parents, s, b, a, m);
-    close_up(xs, s, b, m);
-    close_up(ys, s, b, m);
-    close_up(required, s, b, n);
-    close_up(weights, s, b, n);
+    close_up(parents, s, b, m, |u| new_number(s, b, above_gone(b, a, u)));
+    close_up(xs, s, b, m, |x| x);
+    close_up(ys, s, b, m, |y| y);
+    close_up(required, s, b, n, |r| r);
+    close_up(weights, s, b, n, |w| w);
 }

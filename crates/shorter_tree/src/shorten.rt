@@ -9,7 +9,8 @@ ghost use Rattle.shorter_tree.specs.Inner.Arrays.{HoldsLegal, HoldsShorter};
 use crate::close_up::close_up_all;
 use tree::descend::lowest_unreached;
 use tree::header::Header;
-use tree::measure::{Tally, measure_tree};
+use tree::measures::Measures;
+use tree::view::TreeView;
 
 // Sink s of n goes; the worst slack and the wire of the shorter tree are returned. Each of its vertices is reached, so that `queue` then has them from the root
 // down. `first`, `second`, `queue` and `slacks` are room to work in.
@@ -26,15 +27,21 @@ pub fn shorten(
     second: &mut [usize],
     queue: &mut [usize],
     slacks: &mut [i64],
-) -> Tally
+) -> Measures
     requires held { HoldsLegal header n parents.old xs.old ys.old required.old weights.old }
     requires room { (2 ≤ n) × (1 ≤ s) × (s ≤ n) × HasRoom n first.old second.old queue.old slacks.old }
     ensures shorter { HoldsShorter n s parents.old xs.old ys.old required.old weights.old parents.new xs.new ys.new required.new weights.new }
-    ensures worst { result.worst.0 ≡ worst_slack (without (net_of header n xs.old ys.old required.old) s) (pruned (net_of header n xs.old ys.old required.old) (tree_of n parents.old xs.old ys.old) s) }
+    ensures worst { result.slack.0 ≡ worst_slack (without (net_of header n xs.old ys.old required.old) s) (pruned (net_of header n xs.old ys.old required.old) (tree_of n parents.old xs.old ys.old) s) }
     ensures wire { result.wire.0 ≡ wire_length (without (net_of header n xs.old ys.old required.old) s) (pruned (net_of header n xs.old ys.old required.old) (tree_of n parents.old xs.old ys.old) s) }
 {
     close_up_all(n, s, parents, xs, ys, required, weights);
     let m = n - 1;
     lowest_unreached(m, parents, first, second, queue);
-    measure_tree(header, m, parents, xs, ys, required, queue, slacks)
+    let tree = TreeView {
+        n: m,
+        parents,
+        xs,
+        ys,
+    };
+    tree.measure_tree(header, required, queue, slacks)
 }

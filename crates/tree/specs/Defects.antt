@@ -1,6 +1,5 @@
 -- What makes a tree illegal, as judge looks for it: document 01, the refusals 9 and 10. Definitions alone.
-use Rattle.std.specs.Prelude.{ℕ, zero, suc, ◌*◌, ◌-◌, ◌<◌, ◌≡◌, ◌≢◌, not, List, ◌∷◌, eqb}
-use Rattle.std.proofs.Math.Option.{Option}
+use Rattle.std.specs.Prelude.{ℕ, zero, suc, ◌*◌, ◌-◌, ◌<◌, ◌≡◌, ◌≢◌, not, List, ◌∷◌, eqb, Option}
 use Rattle.tree.specs.Lists.{count, range, first_with}
 use Rattle.tree.specs.Net.{branch_numbers}
 use Rattle.tree.specs.Tree.{parent_of, ancestor, Reached}

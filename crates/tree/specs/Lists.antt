@@ -1,6 +1,5 @@
 -- Sums, counts and ranges, as the other definitions use them. Definitions alone.
-use Rattle.std.specs.Prelude.{ℕ, zero, suc, ◌+◌, Bool, cond, List, [], ◌∷◌, ℤ, pos}
-use Rattle.std.proofs.Math.Option.{Option, none, some}
+use Rattle.std.specs.Prelude.{ℕ, zero, suc, ◌+◌, Bool, cond, List, [], ◌∷◌, ℤ, pos, Option, None, Some}
 use Rattle.quantities.specs.MinMax.{min_ℤ}
 
 -- the sum of f over a list
@@ -31,8 +30,8 @@ down n (suc k) = (n + suc k) ∷ down n k
 
 -- the first of a list that passes a test
 abbrev pub first_with : (ℕ → Bool) → List ℕ → Option ℕ
-first_with test [] = none
-first_with test (v ∷ l) = cond (test v) (some v) (first_with test l)
+first_with test [] = None
+first_with test (v ∷ l) = cond (test v) (Some v) (first_with test l)
 
 -- those of a list that pass a test
 abbrev pub all_with : (ℕ → Bool) → List ℕ → List ℕ

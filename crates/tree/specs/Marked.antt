@@ -1,6 +1,5 @@
 -- The marked nets of document 01, those of requests 1 and 4 of 02, and the numbers of request 3, as far as they need no text: one statement. By request 4 those of 01 are "restated with h = v".
-use Rattle.std.specs.Prelude.{ℕ, ◌<◌, ◌≡◌, [], ◌∷◌, map, ℤ, pos, neg_ℤ, ◌<ℤ◌}
-use Rattle.std.proofs.Math.Option.{some, none}
+use Rattle.std.specs.Prelude.{ℕ, ◌<◌, ◌≡◌, [], ◌∷◌, map, ℤ, pos, neg_ℤ, ◌<ℤ◌, Some, None}
 use Rattle.quantities.specs.declared.metal_pair.MetalPair.{MetalPair}
 use Rattle.quantities.specs.declared.point.Point.{Point}
 use Rattle.quantities.specs.Median.{median_point}
@@ -146,8 +145,8 @@ pub record Marked : Type 0 where
   -- "The median of 0,0 and 4,6 and 10,0 is 4,0."
   pub median_of_three : median_point (point (pos 0) (pos 0)) (point (pos 4) (pos 6)) (point (pos 10) (pos 0)) ≡ point (pos 4) (pos 0)
   -- "n = 3, parents of 1 to 5 are 0, 4, 5, 5, 4: 10,2,5": the counts are right, vertex 2 is not reached, so the tree is not legal
-  pub ring_counts : wrong_children 3 (0 ∷ (4 ∷ (5 ∷ (5 ∷ (4 ∷ []))))) ≡ none
-  pub ring_unreached : unreached 3 (0 ∷ (4 ∷ (5 ∷ (5 ∷ (4 ∷ []))))) ≡ some 2
+  pub ring_counts : wrong_children 3 (0 ∷ (4 ∷ (5 ∷ (5 ∷ (4 ∷ []))))) ≡ None
+  pub ring_unreached : unreached 3 (0 ∷ (4 ∷ (5 ∷ (5 ∷ (4 ∷ []))))) ≡ Some 2
   pub ring_illegal : Legal 3 (0 ∷ (4 ∷ (5 ∷ (5 ∷ (4 ∷ []))))) → ⊥
   -- "n = 3, parents 4, 4, 4, 0, 4: 9,2,7": vertex 4 has a wrong number of children
-  pub star_counts : wrong_children 3 (4 ∷ (4 ∷ (4 ∷ (0 ∷ (4 ∷ []))))) ≡ some 4
+  pub star_counts : wrong_children 3 (4 ∷ (4 ∷ (4 ∷ (0 ∷ (4 ∷ []))))) ≡ Some 4

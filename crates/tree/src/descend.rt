@@ -1,23 +1,18 @@
 // Down a tree from the root, by a queue: the root's child, then the children of each branch point. What is never queued is not reached.
-ghost use Rattle.std.specs.Prelude.{◌≡◌, List, ℕ, ◌+◌, ◌*◌, ◌-◌, ◌≤◌, ◌<◌, eqb, length, get_or, set};
-ghost use Rattle.std.proofs.Math.Option.{none};
-ghost use Rattle.tree.specs.Lists.{range, first_with};
+ghost use Rattle.std.specs.Prelude.{◌≡◌, List, ℕ, ◌+◌, ◌*◌, ◌-◌, ◌≤◌, ◌<◌, ◌==◌, length, get_or, set};
+ghost use Rattle.std.specs.List.{find, range_with_len};
 ghost use Rattle.tree.specs.Defects.{wrong_children, unreached};
 ghost use Rattle.tree.specs.Inner.Arrays.{parents_of, Parents, RootDown};
 ghost use Rattle.tree.specs.Inner.Descent.{Linked, Descended, MarksQueued};
-ghost use Rattle.tree.specs.Inner.Found.{found_in};
 
-use crate::found::Found;
 use crate::places::clear;
 
 // The children of each vertex, the lower number first. Where a vertex has fewer than two, what stands besides means nothing: nothing is cleared.
 fn link_children(n: usize, parents: &[usize], first: &mut [usize], second: &mut [usize])
-    requires { Parents n parents.now × (wrong_children n (parents_of n parents.now) ≡ none) × (2 * n ≤ length first.old) × (2 * n ≤ length second.old) }
+    requires { Parents n parents.now × (wrong_children n (parents_of n parents.now) ≡ None) × (2 * n ≤ length first.old) × (2 * n ≤ length second.old) }
     ensures { Linked n parents.now first.new second.new }
 {
-    let mut v = 2 * n;
-    while 1 < v {
-        v -= 1;
+    for v in (1..2 * n).rev() {
         let p = parents[v];
         second[p] = first[p];
         first[p] = v;
@@ -54,6 +49,7 @@ fn descend(n: usize, first: &[usize], second: &[usize], queue: &mut [usize]) -> 
     queue[0] = first[0];
     let mut end = 1;
     let mut i = 0;
+    // A while: the queue's end moves as it is walked.
     while i < end {
         let v = queue[i];
         end = queue_children(n, first, second, queue, end, v);
@@ -68,27 +64,17 @@ fn mark_queued(n: usize, queue: &[usize], end: usize, marks: &mut [usize])
     ensures { MarksQueued n queue.now end marks.new }
 {
     clear(marks, 2 * n);
-    let mut j = 0;
-    while j < end {
-        let v = queue[j];
+    for &v in &queue[..end] {
         marks[v] = 1;
-        j += 1;
     }
 }
 
 // The lowest vertex below the root that is not marked.
-fn lowest_unmarked(n: usize, marks: &[usize]) -> Found
+fn lowest_unmarked(n: usize, marks: &[usize]) -> Option<usize>
     requires { 2 * n ≤ length marks.now }
-    ensures { found_in result ≡ first_with (λ v. eqb (get_or marks.now v 0) 0) (range 1 (2 * n - 1)) }
+    ensures { result ≡ find (λ v. get_or marks.now v 0 == 0) (range_with_len 1 (2 * n - 1)) }
 {
-    let mut v = 1;
-    while v < 2 * n {
-        if marks[v] == 0 {
-            return Found::At(v);
-        }
-        v += 1;
-    }
-    Found::Nothing
+    (1..2 * n).find(|&v| marks[v] == 0)
 }
 
 // The lowest vertex that is not reached from the root, in a tree with the right numbers of children. Where there is none, `queue` holds the vertices from the
@@ -99,16 +85,16 @@ pub fn lowest_unreached(
     first: &mut [usize],
     second: &mut [usize],
     queue: &mut [usize],
-) -> Found
-    requires parents { Parents n parents.now × (wrong_children n (parents_of n parents.now) ≡ none) }
+) -> Option<usize>
+    requires parents { Parents n parents.now × (wrong_children n (parents_of n parents.now) ≡ None) }
     requires n_in_bounds { (2 * n ≤ length first.old) × (2 * n ≤ length second.old) × (2 * n ≤ length queue.old) }
-    ensures found { found_in result ≡ unreached n (parents_of n parents.now) }
-    ensures order { found_in result ≡ none → RootDown n parents.now queue.new }
+    ensures found { result ≡ unreached n (parents_of n parents.now) }
+    ensures order { result ≡ None → RootDown n parents.now queue.new }
 {
     link_children(n, parents, first, second);
     let end = descend(n, first, second, queue);
     if end == 2 * n - 1 {
-        return Found::Nothing;
+        return None;
     }
     mark_queued(n, queue, end, first);
     lowest_unmarked(n, first)

@@ -2,7 +2,7 @@
 use quantities::metal_pair::MetalPair;
 use quantities::time::Time;
 
-#[derive(Clone, Copy)]
+#[derive(Clone, Copy, Debug, PartialEq, Eq)]
 pub struct Header {
     pub branch: Time,
     pub wire: MetalPair,

@@ -3,11 +3,12 @@
 
 pub mod children;
 pub mod descend;
-pub mod found;
 pub mod header;
 pub mod limits;
 pub mod measure;
+pub mod measures;
 pub mod order;
 pub mod places;
 pub mod settle;
 pub mod split;
+pub mod view;

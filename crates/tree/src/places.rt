@@ -6,9 +6,5 @@ pub fn clear(places: &mut [usize], m: usize)
     requires { m ≤ length places.old }
     ensures { (u : ℕ) → u < m → get_or places.new u 0 ≡ 0 }
 {
-    let mut u = 0;
-    while u < m {
-        places[u] = 0;
-        u += 1;
-    }
+    places[..m].fill(0);
 }

@@ -28,11 +28,8 @@ pub fn list_children(n: usize, parents: &[usize], kids: &mut [usize])
     ensures { (b : ℕ) → n < b → b < 2 * n → (get_or kids.new (2 * b) 0 ≡ get_or (children (parents_of n parents.now) b) 0 0) × (get_or kids.new (2 * b + 1) 0 ≡ get_or (children (parents_of n parents.now) b) 1 0) }
 {
     clear(kids, 4 * n);
-    let mut v = 1;
-    while v < 2 * n {
-        let p = parents[v];
-        add_child(kids, p, v);
-        v += 1;
+    for v in 1..2 * n {
+        add_child(kids, parents[v], v);
     }
 }
 
@@ -48,10 +45,8 @@ fn settle_one(xs: &mut [i64], ys: &mut [i64], kids: &[usize], b: usize)
     let left = point(xs, ys, kids[2 * b]);
     let right = point(xs, ys, kids[2 * b + 1]);
     let middle = median_point(root, left, right);
-    let x = middle.x;
-    let y = middle.y;
-    xs[b] = x;
-    ys[b] = y;
+    xs[b] = middle.x;
+    ys[b] = middle.y;
 }
 
 // Branch point v moves to its place; a sink stays.
@@ -82,9 +77,7 @@ pub fn settle(
     ensures kept { (v : ℕ) → v ≤ n → point_at xs.new ys.new v ≡ point_at xs.old ys.old v }
 {
     list_children(n, parents, kids);
-    let mut i = 0;
-    while i < 2 * n - 1 {
-        settle_vertex(n, xs, ys, kids, upward[i]);
-        i += 1;
+    for &v in &upward[..2 * n - 1] {
+        settle_vertex(n, xs, ys, kids, v);
     }
 }

@@ -8,31 +8,18 @@ ghost use Rattle.weighted_tree.specs.Inner.Arrays.{PlanRoom};
 
 use crate::join::join_all;
 use tree::header::Header;
-use tree::measure::{Tally, measure_tree};
+use tree::measures::Measures;
 use tree::order::order_by;
 use tree::settle::settle;
+use tree::view::TreeView;
 
 // The vertices 1 to 2n-1 by number: from the leaves up, since a parent's number is higher.
 fn number_up(n: usize, order: &mut [usize])
     requires { (1 ≤ n) × (n ≤ sink_limit) × (2 * n ≤ length order.old) }
     ensures { (i : ℕ) → i < 2 * n - 1 → get_or order.new i 0 ≡ suc i }
 {
-    let mut i = 0;
-    while i < 2 * n - 1 {
-        order[i] = i + 1;
-        i += 1;
-    }
-}
-
-// The same the other way round: from the root down.
-fn number_down(n: usize, order: &mut [usize])
-    requires { (1 ≤ n) × (n ≤ sink_limit) × (2 * n ≤ length order.old) }
-    ensures { (i : ℕ) → i < 2 * n - 1 → get_or order.new i 0 ≡ 2 * n - 1 - i }
-{
-    let mut i = 0;
-    while i < 2 * n - 1 {
-        order[i] = 2 * n - 1 - i;
-        i += 1;
+    for (i, place) in order[..2 * n - 1].iter_mut().enumerate() {
+        *place = i + 1;
     }
 }
 
@@ -49,18 +36,20 @@ pub fn make(
     order: &mut [usize],
     room: &mut [usize],
     slacks: &mut [i64],
-) -> Tally
+) -> Measures
     requires holds_net { HoldsNet h n xs.old ys.old required.now × HoldsWeights n weights.old }
     requires plan_room { PlanRoom n xs.old ys.old weights.old parents.old order.old room.old slacks.old }
     ensures tree { tree_of n parents.new xs.new ys.new ≡ weighted_tree (net_of h n xs.old ys.old required.now) (weights_of n weights.old) }
     ensures kept { (v : ℕ) → v ≤ n → point_at xs.new ys.new v ≡ point_at xs.old ys.old v }
-    ensures worst { result.worst.0 ≡ worst_slack (net_of h n xs.old ys.old required.now) (weighted_tree (net_of h n xs.old ys.old required.now) (weights_of n weights.old)) }
+    ensures worst { result.slack.0 ≡ worst_slack (net_of h n xs.old ys.old required.now) (weighted_tree (net_of h n xs.old ys.old required.now) (weights_of n weights.old)) }
     ensures wire { result.wire.0 ≡ wire_length (net_of h n xs.old ys.old required.now) (weighted_tree (net_of h n xs.old ys.old required.now) (weights_of n weights.old)) }
 {
     order_by(n, weights, order);
     join_all(n, weights, order, parents);
     number_up(n, order);
     settle(n, parents, order, xs, ys, room);
-    number_down(n, order);
-    measure_tree(h, n, parents, xs, ys, required, order, slacks)
+    // From the root down.
+    order[..2 * n - 1].reverse();
+    let tree = TreeView { n, parents, xs, ys };
+    tree.measure_tree(h, required, order, slacks)
 }

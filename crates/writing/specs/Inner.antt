@@ -1,2 +1,4 @@
 -- What serves the contracts of inner functions.
 pub mod NetWriting
+pub mod NetSeen
+pub mod ListingSeen

@@ -1,8 +1,10 @@
 // A net and a tree's listing written, and their lengths, which are known before a byte is.
 #![tactic(auto)]
 
-pub mod line_length;
-pub mod listing_length;
-pub mod net_length;
-pub mod write_listing;
-pub mod write_net;
+mod line_length;
+mod listing_length;
+pub mod listing_view;
+mod net_length;
+pub mod net_view;
+mod write_listing;
+mod write_net;

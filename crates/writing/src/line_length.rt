@@ -1,10 +1,9 @@
 // How long a number and a line are, without writing them.
-ghost use Rattle.std.specs.Prelude.{◌≡◌, [], ◌∷◌, ◌<◌, length, pos};
+ghost use Rattle.std.specs.Prelude.{◌≡◌, ◌+◌, ◌*◌, ◌≤◌, ◌<◌, length};
+ghost use Rattle.std.specs.List.{All};
 ghost use Rattle.formats.specs.Decimal.{show_nat, show};
 ghost use Rattle.formats.specs.Line.{line_text};
 ghost use Rattle.formats.specs.Inner.Writing.{Writable};
-
-use formats::write::magnitude;
 
 // The digits of a number that has four at most.
 fn few_digits(n: u64) -> usize
@@ -23,9 +22,8 @@ fn few_digits(n: u64) -> usize
     4
 }
 
-// Four digits go at a time: a vertex costs no division, and a coordinate one.
+// A while: it divides until four digits are left. They go four at a time, so a vertex costs no division, and a coordinate one.
 fn natural_length(n: u64) -> usize
-    requires { Writable (pos n) }
     ensures { result ≡ length (show_nat n) }
 {
     let mut left = n;
@@ -38,33 +36,20 @@ fn natural_length(n: u64) -> usize
 }
 
 fn number_length(z: i64) -> usize
-    requires { Writable z }
-    ensures { result ≡ length (show z) }
+    ensures value { result ≡ length (show z) }
+    ensures few { result ≤ 21 }
 {
-    let digits = natural_length(magnitude(z));
+    let digits = natural_length(z.unsigned_abs());
     if z < 0 { digits + 1 } else { digits }
 }
 
-// A line of `key` and one number.
-pub fn line1_length(key: &[u8], a: i64) -> usize
-    requires { Writable a }
-    ensures { result ≡ length (line_text key.now (a ∷ [])) }
+// A line of `key` and the numbers, each with a comma or the end byte after it. No line has more than four.
+pub fn line_length<const K: usize>(key: &[u8], values: [i64; K]) -> usize
+    requires count { (1 ≤ K) × (K ≤ 4) }
+    requires writable { All Writable values }
+    ensures value { result ≡ length (line_text key.now values.entry) }
+    ensures short { result ≤ length key.now + 18 * K }
 {
-    key.len() + number_length(a) + 1
-}
-
-// A line of `key` and two numbers.
-pub fn line2_length(key: &[u8], a: i64, b: i64) -> usize
-    requires { Writable a × Writable b }
-    ensures { result ≡ length (line_text key.now (a ∷ (b ∷ []))) }
-{
-    line1_length(key, a) + number_length(b) + 1
-}
-
-// A line of `key` and four numbers.
-pub fn line4_length(key: &[u8], a: i64, b: i64, c: i64, d: i64) -> usize
-    requires { Writable a × Writable b × Writable c × Writable d }
-    ensures { result ≡ length (line_text key.now (a ∷ (b ∷ (c ∷ (d ∷ []))))) }
-{
-    line2_length(key, a, b) + number_length(c) + number_length(d) + 2
+    let numbers: usize = values.iter().map(|value| number_length(*value) + 1).sum();
+    key.len() + numbers
 }

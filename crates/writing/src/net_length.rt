@@ -1,12 +1,12 @@
 // How long a net is, without writing it.
 ghost use Rattle.std.specs.Prelude.{◌≡◌, ◌≤◌, length};
-ghost use Rattle.tree.specs.Inner.Arrays.{HoldsNet, HoldsWeights};
 ghost use Rattle.tree.specs.Net.{sink_numbers};
-ghost use Rattle.formats.specs.Limits.{net_length_limit};
 ghost use Rattle.formats.specs.ListingText.{lines_text};
-ghost use Rattle.writing.specs.Inner.NetWriting.{net_held_text, net_head_text, sink_line, HeadInRange, SinkInRange, SinksInRange};
+ghost use Rattle.writing.specs.Inner.NetWriting.{net_head_text, HeadInRange};
+ghost use Rattle.writing.specs.Inner.NetSeen.{net_seen_text, sink_seen_line};
 
-use crate::line_length::{line1_length, line2_length, line4_length};
+use crate::line_length::line_length;
+use crate::net_view::NetView;
 use quantities::point::Point;
 use tree::header::Header;
 
@@ -18,49 +18,40 @@ fn head_length(header: Header, root: Point, n: usize) -> usize
     let wire = header.wire;
     let horizontal = wire.horizontal.attoseconds_per_nanometre() as i64;
     let vertical = wire.vertical.attoseconds_per_nanometre() as i64;
-    let first = line2_length(b"root=", root.x, root.y);
-    let second = line1_length(b"branch=", header.branch.attoseconds());
-    let third = line2_length(b"wire=", horizontal, vertical);
-    let fourth = line1_length(b"need=", header.need.attoseconds());
-    let fifth = line1_length(b"sinks=", n as i64);
+    let first = line_length(b"root=", [root.x, root.y]);
+    let second = line_length(b"branch=", [header.branch.attoseconds()]);
+    let third = line_length(b"wire=", [horizontal, vertical]);
+    let fourth = line_length(b"need=", [header.need.attoseconds()]);
+    let fifth = line_length(b"sinks=", [n as i64]);
     first + second + third + fourth + fifth
 }
 
-// The line of sink k.
-fn sink_length(xs: &[i64], ys: &[i64], required: &[i64], weights: &[i64], k: usize) -> usize
-    requires { SinkInRange xs.now ys.now required.now weights.now k }
-    ensures { result ≡ length (sink_line xs.now ys.now required.now weights.now k) }
-{
-    line4_length(b"sink=", xs[k], ys[k], required[k], weights[k])
-}
-
-fn sinks_length(n: usize, xs: &[i64], ys: &[i64], required: &[i64], weights: &[i64]) -> usize
-    requires sinks_in_range { SinksInRange n xs.now ys.now required.now weights.now }
-    requires n_len_bound { length (lines_text (sink_line xs.now ys.now required.now weights.now) (sink_numbers n)) ≤ net_length_limit }
-    ensures { result ≡ length (lines_text (sink_line xs.now ys.now required.now weights.now) (sink_numbers n)) }
-{
-    let mut counted = 0;
-    let mut k = 1;
-    while k <= n {
-        counted += sink_length(xs, ys, required, weights, k);
-        k += 1;
+impl NetView<'_> {
+    // The line of sink k.
+    fn sink_length(self, k: usize) -> usize
+        requires { (1 ≤ k) × (k ≤ self.n) }
+        ensures { result ≡ length (sink_seen_line self.entry k) }
+    {
+        line_length(
+            b"sink=",
+            [self.xs[k], self.ys[k], self.required[k], self.weights[k]],
+        )
     }
-    counted
-}
 
-// The length of the text of the net in the arrays, with its weights.
-pub fn net_length(
-    header: Header,
-    n: usize,
-    xs: &[i64],
-    ys: &[i64],
-    required: &[i64],
-    weights: &[i64],
-) -> usize
-    requires { HoldsNet header n xs.now ys.now required.now × HoldsWeights n weights.now }
-    ensures { result ≡ length (net_held_text header n xs.now ys.now required.now weights.now) }
-{
-    let root = Point { x: xs[0], y: ys[0] };
-    let head = head_length(header, root, n);
-    head + sinks_length(n, xs, ys, required, weights)
+    fn sinks_length(self) -> usize
+        ensures { result ≡ length (lines_text (sink_seen_line self.entry) (sink_numbers self.entry.n)) }
+    {
+        (1..self.n + 1).map(|k| self.sink_length(k)).sum()
+    }
+
+    // The length of the net's text.
+    pub fn length(self) -> usize
+        ensures { result ≡ length (net_seen_text self.entry) }
+    {
+        let root = Point {
+            x: self.xs[0],
+            y: self.ys[0],
+        };
+        head_length(self.header, root, self.n) + self.sinks_length()
+    }
 }

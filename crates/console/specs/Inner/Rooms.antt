@@ -1,7 +1,5 @@
 -- The room that the parts of a complaint take, and the bytes that were read. Definitions alone.
-use Rattle.std.specs.Prelude.{ℕ, ◌+◌, ◌≤◌, List, length}
-use Rattle.console.specs.declared.stream.Input.{Input}
-use Rattle.console.specs.declared.stream.Input.TheVariants.{Ended, Full, Failed}
+use Rattle.std.specs.Prelude.{ℕ, ◌+◌, ◌≤◌, List, Option, Some, None, length}
 
 -- the words of any refusal, and a colon with any line
 abbrev pub words_room : ℕ
@@ -15,7 +13,6 @@ abbrev pub NamesFit : List ℕ → List ℕ → ℕ → List ℕ → Type 0
 NamesFit net listing k out = (6 + k ≤ length out) × (length net + k ≤ length out) × (length listing + k ≤ length out)
 
 -- the bytes that were read are within the buffer
-abbrev pub FitsIn : ℕ → Input → Type 0
-FitsIn n (Ended bytes) = bytes ≤ n
-FitsIn n Full = Unit {0}
-FitsIn n Failed = Unit {0}
+abbrev pub FitsIn : ℕ → Option ℕ → Type 0
+FitsIn n (Some bytes) = bytes ≤ n
+FitsIn n None = Unit {0}

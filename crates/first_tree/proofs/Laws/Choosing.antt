@@ -6,8 +6,6 @@ use mathlib.Core.Logic.{◌≢◌, ◌⊎◌, inl, inr}
 use mathlib.Core.List.{List}
 use native.Mathlib.Decide.{dec_le}
 use native.Mathlib.Omega.{arith}
-use borrow.Author.Tests.{ltb-true, ltb-false}
-use lib.Dec.{ltb}
 use lib.ListN.{get_or}
 use lib.IntN.{ℤ, pos, ◌-ℤ◌}
 use lib.Signed.{◌≤ℤ◌, ◌<ℤ◌, lt_z, ≤ℤ_refl}
@@ -16,7 +14,7 @@ use Rattle.quantities.proofs.Laws.MinMax.{min_is}
 use Rattle.first_tree.specs.declared.choose.Edge.{Edge}
 use Rattle.first_tree.specs.declared.choose.Scored.{Scored}
 use Rattle.tree.specs.SmallestSlack.{score_of}
-use Rattle.first_tree.specs.Inner.Choice.{goes_before, first_of, edge_to, scored_at, roomier_of, RoomiestFrom, BestEnd, BestEdge, SinkEnd, SinkFrom, AnyEnd, NoneRoomier, NoneAsGood, FirstAsGood}
+use Rattle.first_tree.specs.Inner.Choice.{goes_before, first_of, edge_to, scored_at, roomier_of, RoomiestFrom, BestEnd, BestEdge, SinkEnd, SinkFrom, AnyEnd, NoneRoomier, FirstAsGood}
 use Rattle.tree.proofs.Laws.Lists.Sums.{equal?}
 use Rattle.tree.proofs.Laws.Planning.Ties.{Ahead, ahead_self, ahead_trans, ahead_one, NearerOrLower, before_self, before_trans, nearer_says, by_distance}
 
@@ -114,18 +112,9 @@ module _ (f : ℕ → ℤ) (d : ℕ → ℕ) where
     },
   )
 
--- ---- the roomiest sink: of one, one more, and of all where none can score more
+-- ---- the roomiest sink: of one more, and of all where none can score more
 
 module _ (f : ℕ → ℤ) (sinks : List ℕ) (m : ℕ) where
-  pub roomiest_one : (i : ℕ) (r : Scored) → m ≡ suc i → r ≡ scored_at f sinks i → RoomiestFrom f sinks i m r
-  roomiest_one i r l e = subst (RoomiestFrom f sinks i m) (sym e) record {
-    from = omega arith;
-    inside = omega arith;
-    is = refl;
-    largest = λ h q p. let z : h ≡ i = omega arith in subst (λ (k : ℕ). f (get_or sinks k 0) ≤ℤ f (get_or sinks i 0)) (sym z) (≤ℤ_refl (f (get_or sinks i 0)));
-    behind = λ h q p. absurd (omega arith);
-  }
-
   pub roomiest_more : (i : ℕ) (x r : Scored) → RoomiestFrom f sinks (suc i) m x → r ≡ roomier_of (scored_at f sinks i) x → RoomiestFrom f sinks i m r
   roomiest_more i x r R e = subst (RoomiestFrom f sinks i m) (sym e) (go (lt_z x.score.0 (f (get_or sinks i 0))) refl)
     where
@@ -161,14 +150,6 @@ module _ (f : ℕ → ℤ) (sinks : List ℕ) (m : ℕ) where
     largest = λ h q p. let z : f (get_or sinks h 0) ≤ℤ worst = top (get_or sinks h 0) in omega (arith, whole);
     behind = R.behind;
   }
-
--- ---- the branch points, by number: none below b scores w, nor does b
-pub next_none : (c : ℤ) (slacks : List ℤ) (w : ℤ) (n b : ℕ) → NoneAsGood c slacks w n b → lt_z (score_of c slacks b) w ≡ true → NoneAsGood c slacks w n (b + 1)
-next_none c slacks w n b below e v l h = go (equal? v b)
-  where
-    go : (v ≡ b) ⊎ (v ≢ b) → lt_z (score_of c slacks v) w ≡ true
-    go (inl q) = ap (λ (u : ℕ). lt_z (score_of c slacks u) w) q ∙ e
-    go (inr q) = below v l (omega arith)
 
 -- ---- the branch points: none scores more than the best sink, and all are as far as the root
 module _ (c : ℤ) (n k : ℕ) (sinks : List ℕ) (slacks : List ℤ) (d : ℕ → ℕ) (x : Edge) {far : ℕ} (small : (i : ℕ) → i < suc k → get_or sinks i 0 ≤ n)
@@ -206,22 +187,19 @@ module _ (c : ℤ) (n k : ℕ) (sinks : List ℕ) (slacks : List ℤ) (d : ℕ �
       go v (inl w) = inr w
       go v (inr h) = inl (lead v h.0 h.1)
 
-  pub root_no_nearer : ltb far x.far.0 ≡ false → BestEnd (AnyEnd sinks (suc k) n k) f d x.end
+  pub root_no_nearer : x.far.0 ≤ far → BestEnd (AnyEnd sinks (suc k) n k) f d x.end
   root_no_nearer e = sink_best (λ v l h. record {
     more = none_above v l h;
-    tied = λ q. record { near = omega (arith, ltb-false far x.far.0 e, far_is, same v l); low = λ q. omega (arith, end_small) };
+    tied = λ q. record { near = omega (arith, e, far_is, same v l); low = λ q. omega (arith, end_small) };
   })
 
-  pub root_nearer : (r : ℕ) → ltb far x.far.0 ≡ true → FirstAsGood c slacks x.score.0 n k x.end r → BestEnd (AnyEnd sinks (suc k) n k) f d r
-  root_nearer r e (inr w) = subst (BestEnd (AnyEnd sinks (suc k) n k) f d) (sym w.0) (sink_best (λ v l h. behind v (less v (w.1 v l (omega arith)))))
+  pub root_nearer : (r : ℕ) → far < x.far.0 → FirstAsGood c slacks x.score.0 n k x.end r → BestEnd (AnyEnd sinks (suc k) n k) f d r
+  root_nearer r near (inr w) = subst (BestEnd (AnyEnd sinks (suc k) n k) f d) (sym w.0) (sink_best (λ v l h. behind v (less v (w.1 v l (omega arith)))))
     where
       behind : (v : ℕ) → f v <ℤ f x.end → Leads f d x.end v
       behind v q = record { more = omega (arith, whole); tied = λ t. absurd (omega (arith, whole)) }
-  root_nearer r e (inl w) = (leads_best f d r (inr (w.0, w.1)) (λ v h. go v h)).1
+  root_nearer r near (inl w) = (leads_best f d r (inr (w.0, w.1)) (λ v h. go v h)).1
     where
-      near : far < x.far.0
-      near = ltb-true far x.far.0 e
-
       as_good : f r ≡ f x.end
       as_good =
           let h : f r ≤ℤ f x.end = none_above r w.0 w.1 in

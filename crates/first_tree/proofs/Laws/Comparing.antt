@@ -1,10 +1,12 @@
 -- Two edges compared: by the room for a score, by score, and by distance and number where the scores are the same. Assumes nothing.
+use Rattle.std.proofs.Common.{is_le, int_cmp, Less, Greater, Equal}
 use Prim.Native.Nat.{ℕ, ◌≤◌, ◌<◌}
 use mathlib.Core.Path.{◌≡◌, refl, sym, ap, ◌∙◌}
 use mathlib.Core.Bool.{Bool, true, false, cond}
 use mathlib.Core.List.{List}
+use mathlib.Core.Logic.{◌⊎◌, inl, inr}
 use native.Mathlib.Omega.{arith}
-use borrow.Author.Tests.{ltb-true, lt-ltb, le-ltb}
+use borrow.Author.Tests.{lt-ltb, le-ltb}
 use lib.Dec.{ltb}
 use lib.ListN.{get_or}
 use lib.IntN.{ℤ, pos, ◌-ℤ◌}
@@ -17,6 +19,27 @@ use Rattle.tree.specs.Inner.Arrays.{point_at}
 use Rattle.tree.specs.Planning.{nearer}
 use Rattle.tree.specs.SmallestSlack.{score_of}
 use Rattle.first_tree.specs.Inner.Choice.{far_at, goes_before, first_of, edge_to}
+
+-- what a test of an order by its three answers says
+no_greater : (t u : Bool) → is_le (cond t Less (cond u Greater Equal)) ≡ true → (t ≡ true) ⊎ (u ≡ false)
+no_greater true u e = inl refl
+no_greater false true e = inl e
+no_greater false false e = inr refl
+
+greater : (t u : Bool) → is_le (cond t Less (cond u Greater Equal)) ≡ false → u ≡ true
+greater true u e = cc
+greater false true e = refl
+greater false false e = cc
+
+pub le_says : (x y : ℤ) → is_le (int_cmp x y) ≡ true → x ≤ℤ y
+le_says x y e = go (no_greater (lt_z x y) (lt_z y x) e)
+  where
+    go : (lt_z x y ≡ true) ⊎ (lt_z y x ≡ false) → x ≤ℤ y
+    go (inl h) = omega (arith, whole)
+    go (inr h) = omega (arith, whole)
+
+pub le_denies : (x y : ℤ) → is_le (int_cmp x y) ≡ false → y <ℤ x
+le_denies x y e = let h : lt_z y x ≡ true = greater (lt_z x y) (lt_z y x) e in omega (arith, whole)
 
 -- the tests of two scores, and what decides after them
 abbrev by_scores : Edge → Edge → Bool → Bool → Bool
@@ -39,21 +62,6 @@ module _ (c : ℤ) (slacks : List ℤ) (v : ℕ) where
 
   pub room_behind : (d : ℕ → ℕ) (x : Edge) → lt_z (get_or slacks v (pos 0) -ℤ c) x.score.0 ≡ true → first_of (edge_to (score_of c slacks) d v) x ≡ x
   room_behind d x e = less_behind (edge_to (score_of c slacks) d v) x (lt_z_is {a = score_of c slacks v} {b = x.score.0} (room_less x.score.0 e))
-
--- of two edges of the same score the nearer goes first, then the one of the lower number
-pub tied_first : (a x : Edge) → a.score.0 ≡ x.score.0 → (p q t : Bool) → ltb a.far.0 x.far.0 ≡ p → ltb x.far.0 a.far.0 ≡ q → ltb a.end x.end ≡ t
-    → first_of a x ≡ cond (cond p true (cond q false t)) a x
-tied_first a x e p q t ep eq et i = cond (cond (above i) true (cond (below i) false (cond (ep i) true (cond (eq i) false (et i))))) a x
-  where
-    above : lt_z x.score.0 a.score.0 ≡ false
-    above = lt_z_not {a = x.score.0} {b = a.score.0} (omega (arith, whole))
-
-    below : lt_z a.score.0 x.score.0 ≡ false
-    below = lt_z_not {a = a.score.0} {b = x.score.0} (omega (arith, whole))
-
-pub farther_behind : (a x : Edge) → a.score.0 ≡ x.score.0 → ltb x.far.0 a.far.0 ≡ true → first_of a x ≡ x
-farther_behind a x e h =
-    tied_first a x e false true (ltb a.end x.end) (le-ltb a.far.0 x.far.0 (omega (arith, ltb-true x.far.0 a.far.0 h))) h refl
 
 -- where x has the largest score, so does the one that goes first
 pub first_keeps : (a x : Edge) → a.score.0 ≤ℤ x.score.0 → (first_of a x).score.0 ≡ x.score.0

@@ -1,5 +1,5 @@
 -- The loop of insertion over the arrays that the program keeps: the first sink, one more, and the last. Assumes nothing.
-use Prim.Native.Nat.{ℕ, zero, suc, ◌+◌, ◌*◌, ◌-◌, ◌≤◌, ◌<◌}
+use Prim.Native.Nat.{ℕ, suc, ◌+◌, ◌*◌, ◌-◌, ◌≤◌, ◌<◌}
 use mathlib.Core.Path.{◌≡◌, refl, sym, ap, ◌∙◌, subst}
 use mathlib.Core.Bool.{Bool, true, false, cond}
 use mathlib.Core.Logic.{◌≢◌, ◌⊎◌, inl, inr}
@@ -16,7 +16,7 @@ use lib.Signed.{◌≤ℤ◌, ≤ℤ_refl}
 use Rattle.quantities.specs.declared.point.Point.{Point}
 use Rattle.quantities.specs.Distance.{distance}
 use Rattle.quantities.specs.Inner.Linear.{whole, -is}
-use Rattle.quantities.specs.Ranges.{Within, PointWithin}
+use Rattle.quantities.specs.Ranges.{Within}
 use Rattle.quantities.specs.Inner.Reach.{time_reach}
 use Rattle.tree.specs.Lists.{delta, count, down, range}
 use Rattle.tree.specs.Net.{Net, size, sink_at, own_slack}
@@ -24,7 +24,6 @@ use Rattle.tree.specs.Tree.{parent_of}
 use Rattle.tree.specs.Measures.{slack}
 use Rattle.tree.specs.Planning.{order, unsettled, split, far, tie_rule, worst_after, chosen, parents_after, plan_parents}
 use Rattle.tree.specs.Settling.{plan_by}
-use Rattle.tree.specs.Limits.{position_limit, InRange}
 use Rattle.tree.specs.Inner.Arrays.{point_at, parents_of, LeavesUp, UnderRoot, Chained}
 use Rattle.tree.specs.SmallestSlack.{Gathered, InTree, tree_after, score_of, next_sink}
 use Rattle.tree.specs.Inner.Insertion.{Ready, Lined, Placed, Inserted, Leveled, SplitsNext}
@@ -180,11 +179,7 @@ module _ {N : Net} {c : ℤ} {n : ℕ} {own : List ℤ} {sinks : List ℕ} (R : 
 
 -- ---- the next sink
 
-module _ {N : Net} {n : ℕ} {xs ys : List ℤ} (R : InRange N) (e : size N ≡ n) (W : Placed N n xs ys) where
-  pub points_within : (u : ℕ) → u ≤ n → PointWithin position_limit (point_at xs ys u)
-  points_within zero l = subst (PointWithin position_limit) (sym W.root_at) R.root
-  points_within (suc i) l = subst (PointWithin position_limit) (sym (W.sinks_at (suc i) (omega arith) l)) (R.points (suc i) (omega arith) (omega arith))
-
+module _ {N : Net} {n : ℕ} {xs ys : List ℤ} (e : size N ≡ n) (W : Placed N n xs ys) where
   far_is : (P : List ℕ) (s v : ℕ) → 1 ≤ s → s ≤ n → 1 ≤ v → far_at n xs ys s v ≡ far N P s v
   far_is P s v s1 sn v1 = go (ltb n v) refl
     where
@@ -261,7 +256,7 @@ module _ {N : Net} {c : ℤ} {n : ℕ} {own xs ys : List ℤ} {sinks : List ℕ}
     v_old = end_old v B.inside
 
     far_same : (u : ℕ) → Old u → far_at n xs ys s u ≡ far N Q next u
-    far_same u h = ap (λ (z : ℕ). far_at n xs ys z u) s_next ∙ far_is R.in_range R.size_is W Q next u next_in.0 (omega (arith, next_in, R.size_is)) (vertex_in N a1 k low u h).0
+    far_same u h = ap (λ (z : ℕ). far_at n xs ys z u) s_next ∙ far_is R.size_is W Q next u next_in.0 (omega (arith, next_in, R.size_is)) (vertex_in N a1 k low u h).0
 
     chosen_is : v ≡ chosen tie_rule N (inserted N k) k Q next
     unfolding tie_rule
@@ -456,9 +451,6 @@ module _ {N : Net} {c : ℤ} {n : ℕ} {own : List ℤ} (R : Ready N c n own) {k
 
   k_is : k ≡ size N - 1
   k_is = omega (arith, R.size_is)
-
-  pub last_parents : parents_of n ps ≡ plan_parents tie_rule N
-  last_parents = ap (λ (m : ℕ). parents_of m ps) (sym R.size_is) ∙ I.parents_are ∙ ap (parents_after tie_rule N) k_is
 
   all_in : (y : ℕ) → count y (range 1 (size N)) ≡ count y (inserted N k)
   all_in y =

@@ -1,13 +1,10 @@
 -- The choice of the edge to split, from the numbers that the planner's arrays give, for the contracts of its inner functions. Definitions alone.
-use Rattle.std.specs.Prelude.{ℕ, suc, ◌+◌, ◌≤◌, ◌<◌, ◌≡◌, Bool, true, false, cond, ◌⊎◌, List, length, get_or, ltb, ℤ, pos, ◌≤ℤ◌, ◌<ℤ◌}
+use Rattle.std.specs.Prelude.{ℕ, suc, ◌+◌, ◌≤◌, ◌<◌, ◌≡◌, Bool, true, false, cond, ◌⊎◌, List, get_or, ltb, ℤ, pos, ◌≤ℤ◌, ◌<ℤ◌}
 use Rattle.std.specs.Int.Signed.{lt_z}
 use Rattle.quantities.specs.Distance.{distance}
-use Rattle.quantities.specs.Ranges.{Within, PointWithin}
-use Rattle.quantities.specs.Inner.Reach.{time_reach}
 use Rattle.first_tree.specs.declared.choose.Edge.{Edge}
 use Rattle.first_tree.specs.declared.choose.Scored.{Scored}
 use Rattle.tree.specs.Planning.{nearer, ranks}
-use Rattle.tree.specs.Limits.{position_limit}
 use Rattle.tree.specs.SmallestSlack.{score_of}
 use Rattle.tree.specs.Inner.Arrays.{point_at}
 
@@ -61,17 +58,6 @@ AnyEnd sinks m n h v = SinkEnd sinks m v ⊎ ((n < v) × (v ≤ n + h))
 -- the sinks at the places i to m - 1 of their order
 abbrev pub SinkFrom : List ℕ → ℕ → ℕ → ℕ → Type 0
 SinkFrom sinks i m v = (h : ℕ) × (i ≤ h) × (h < m) × (get_or sinks h 0 ≡ v)
-
--- what the search asks of the arrays: the places of the root and of the n sinks, and a sink that is in
-abbrev pub PlacesWithin : ℕ → List ℤ → List ℤ → Type 0
-PlacesWithin n xs ys = (n < length xs) × (n < length ys) × ((u : ℕ) → u ≤ n → PointWithin position_limit (point_at xs ys u))
-
-abbrev pub SinkWithin : ℕ → List ℤ → ℕ → Type 0
-SinkWithin n slacks u = (u ≤ n) × (u < length slacks) × Within time_reach (get_or slacks u (pos 0))
-
--- what a score asks: the number at v, and the branch cost
-abbrev pub CanScore : ℤ → List ℤ → ℕ → Type 0
-CanScore branch slacks v = (v < length slacks) × Within time_reach (get_or slacks v (pos 0)) × Within time_reach branch
 
 -- no branch point has more room than every sink
 abbrev pub NoneRoomier : ℕ → ℕ → List ℕ → List ℤ → Type 0

@@ -6,8 +6,6 @@ pub mod OneLine
 pub mod Outcomes
 pub mod Refusals
 pub mod Due
-pub mod Taking
-pub mod TakenLines
 pub mod DueTexts
 pub mod Ends
 pub mod Elements

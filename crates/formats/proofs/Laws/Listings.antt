@@ -1,5 +1,4 @@
 -- The listing: its lines read, the whole text, its lines written and counted.
-pub mod DueFor
 pub mod ListingLines
 pub mod ListingTexts
 pub mod OneText

@@ -1,5 +1,4 @@
 -- The net text: its head, its sinks, the whole.
-pub mod Heads
 pub mod Weighing
 pub mod SinkLines
 pub mod SinkTexts

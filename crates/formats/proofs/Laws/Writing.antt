@@ -1,18 +1,22 @@
 -- Laws of the writer: what is put after what was put is put with it, and a store puts one byte.
-use Prim.Native.Nat.{ℕ, suc, ◌+◌, ◌<◌, ◌≤◌}
-use mathlib.Core.Path.{◌≡◌, ap, sym, ◌∙◌}
+use Prim.Native.Nat.{ℕ, zero, suc, ◌+◌, ◌-◌, ◌<◌, ◌≤◌}
+use mathlib.Core.Path.{◌≡◌, refl, ap, sym, ◌∙◌}
 use mathlib.Core.Bool.{false}
 use mathlib.Core.List.{List, [], ◌∷◌, ◌++◌, append_assoc, append-nil}
 use lib.ListN.{length, take, drop, get_or, set, length-append, length-drop, take-append-drop}
 use lib.Seq.{length-take-le, take_at, drop_at, drop-drop, drop-append-add, take-suc, get_or-drop, sets-eq}
-use lib.IntN.{ℤ, nat_abs}
+use lib.IntN.{ℤ, pos, nat_abs}
 use native.Mathlib.Omega.{arith}
 use native.Mathlib.Nat.{add-zero}
+use borrow.Rule.Slice.PartMut.{put_mid}
+use mir.Syntax.{w64}
+use mir.Facts.{to_z-of_z}
+use Rattle.quantities.specs.Inner.Linear.{whole, nat_abs_is, rd}
 use Rattle.formats.specs.Decimal.{show}
 use Rattle.formats.specs.Reading.Numbers.{is_digit, spelt, field, is_negative}
 use Rattle.formats.specs.Bytes.{end_byte, comma}
-use Rattle.formats.specs.Line.{line_text}
-use Rattle.formats.specs.Inner.Writing.{over, Puts, one_then, two_then}
+use Rattle.formats.specs.Line.{row_text, line_text}
+use Rattle.formats.specs.Inner.Writing.{over, Puts, Writable, one_then}
 use Rattle.formats.proofs.Laws.Numbers.Decimal.{field_complete}
 
 module _ (l : List ℕ) (at : ℕ) where
@@ -53,14 +57,12 @@ pub over_one : (l : List ℕ) (at b : ℕ) → at < length l → set l at b ≡ 
 unfolding over
 over_one l at b h = sets-eq (b ∷ []) l at (omega arith)
 
--- one turn of a loop that copies s
-pub over_take : (l : List ℕ) (at : ℕ) (s : List ℕ) (i : ℕ) → at + length s ≤ length l → i < length s → set (over l at (take i s)) (at + i) (get_or s i 0) ≡ over l at (take (suc i) s)
-over_take l at s i h k =
-    let n : length (take i s) ≡ i = length-take-le i s (omega arith) in
-    let g : at + length (take i s) ≤ length l = omega arith in
-    let m : at + i < length (over l at (take i s)) = rw (length_over l at (take i s) g) (omega arith) in
-    let o : over (over l at (take i s)) (at + i) (get_or s i 0 ∷ []) ≡ over l at (take i s ++ (get_or s i 0 ∷ [])) = rw n at (over_over l at (take i s) (get_or s i 0 ∷ []) (omega arith)) in
-    over_one (over l at (take i s)) (at + i) (get_or s i 0) m ∙ o ∙ ap (over l at) (sym (take-suc s i 0 k))
+-- a copy to the part of l at `at`
+pub over_part : (l : List ℕ) (at : ℕ) (s : List ℕ) → put_mid at (at + length s - at) l s ≡ over l at s
+unfolding over
+over_part l at s =
+    let e : at + length s - at ≡ length s = omega arith in
+    rw (e, drop-drop (length s) at l) (sym (append_assoc (take at l) s (drop (at + length s) l)))
 
 -- ---- s, and then t after it
 
@@ -78,13 +80,73 @@ module _ (l : List ℕ) (at : ℕ) (s t : List ℕ) (fits : at + length (s ++ t)
         let o : j ≡ over (over l at s) (at + length s) t = rw (first.0, first.1) at next.1 in
         (rw length-append (omega arith), o ∙ over_over l at s t (omega (arith, fits_first)))
 
--- ---- a line in the pieces that are put
+-- ---- a row, number by number
 
-pub two_is : (a b : ℤ) (stop : ℕ) → two_then a b stop ≡ one_then a comma ++ one_then b stop
-two_is a b stop = simp append_assoc
+-- the byte after a number: a comma where another number follows
+abbrev stop_before : List ℤ → ℕ
+stop_before [] = end_byte
+stop_before (z ∷ l) = comma
 
-pub line4_is : (key : List ℕ) (a b c d : ℤ) → line_text key (a ∷ (b ∷ (c ∷ (d ∷ [])))) ≡ (key ++ two_then a b comma) ++ two_then c d end_byte
-line4_is key a b c d = simp append_assoc
+-- the first k numbers of a row, each with the byte after it
+unfoldable pub row_front : List ℤ → ℕ → List ℕ
+row_front [] k = []
+row_front (z ∷ l) zero = []
+row_front (z ∷ l) (suc k) = one_then z (stop_before l) ++ row_front l k
+
+pub row_none : (l : List ℤ) → row_front l 0 ≡ []
+unfolding row_front
+row_none [] = refl
+row_none (z ∷ l) = refl
+
+pub row_all : (l : List ℤ) → 1 ≤ length l → row_front l (length l) ≡ row_text l
+unfolding row_front
+row_all [] h = absurd (omega arith)
+row_all (z ∷ []) h = append-nil (one_then z end_byte)
+row_all (z ∷ (y ∷ l)) h = append_assoc (show z) (comma ∷ []) (row_front (y ∷ l) (length (y ∷ l))) ∙ ap (λ r. show z ++ (comma ∷ r)) (row_all (y ∷ l) (omega arith))
+
+pub row_le : (l : List ℤ) (k : ℕ) → length (row_front l k) ≤ length (row_text l)
+unfolding row_front
+row_le [] k = omega arith
+row_le (z ∷ l) zero = omega arith
+row_le (z ∷ []) (suc k) = simp length-append (omega arith)
+row_le (z ∷ (y ∷ l)) (suc k) = simp length-append (omega (arith, row_le (y ∷ l) k))
+
+-- a number more: one before the last, or the last
+pub row_more : (l : List ℤ) (k : ℕ) → suc k < length l → row_front l (suc k) ≡ row_front l k ++ one_then (get_or l k (pos 0)) comma
+unfolding row_front
+row_more [] k h = absurd (omega arith)
+row_more (z ∷ []) k h = absurd (omega arith)
+row_more (z ∷ (y ∷ l)) zero h = append-nil (one_then z comma)
+row_more (z ∷ (y ∷ l)) (suc k) h = ap (◌++◌ (one_then z comma)) (row_more (y ∷ l) k (omega arith)) ∙ sym (append_assoc (one_then z comma) _ _)
+
+pub row_last : (l : List ℤ) (k : ℕ) → suc k ≡ length l → row_front l (suc k) ≡ row_front l k ++ one_then (get_or l k (pos 0)) end_byte
+unfolding row_front
+row_last [] k h = absurd (omega arith)
+row_last (z ∷ []) zero h = append-nil (one_then z end_byte)
+row_last (z ∷ []) (suc k) h = absurd (omega arith)
+row_last (z ∷ (y ∷ l)) zero h = absurd (omega arith)
+row_last (z ∷ (y ∷ l)) (suc k) h = ap (◌++◌ (one_then z comma)) (row_last (y ∷ l) k (omega arith)) ∙ sym (append_assoc (one_then z comma) _ _)
+
+-- the number at k and `stop` are put after the key and the first k
+module _ (l : List ℕ) (at : ℕ) (key : List ℕ) (zs : List ℤ) (k stop : ℕ) (more : row_front zs (k + 1) ≡ row_front zs k ++ one_then (get_or zs k (pos 0)) stop) (fits : at + length (line_text key zs) ≤ length l) (next : ℕ) (out : List ℕ) (done : Puts l at (key ++ row_front zs k) next out) where
+  number : List ℕ
+  number = one_then (get_or zs k (pos 0)) stop
+
+  number_room : at + length ((key ++ row_front zs k) ++ number) ≤ length l
+  unfolding number
+  number_room = rw (append_assoc key (row_front zs k) number, ← more) (omega (arith, row_le zs (k + 1), length-append key (row_front zs (k + 1)), length-append key (row_text zs)))
+
+  pub number_fits : next + length (one_then (get_or zs k (pos 0)) stop) ≤ length out
+  unfolding number
+  number_fits = fits_next l at (key ++ row_front zs k) number number_room next out done
+
+  pub number_put : (end : ℕ) (left : List ℕ) → Puts out next (one_then (get_or zs k (pos 0)) stop) end left → Puts l at (key ++ row_front zs (k + 1)) end left
+  unfolding number
+  number_put end left p = rw (more, ← append_assoc key (row_front zs k) number) (puts_both l at (key ++ row_front zs k) number number_room next out done end left p)
+
+-- no number of a line is changed on its way through 64 bits
+pub writable_back : (z : ℤ) → Writable z → rd z ≡ z
+writable_back z h = to_z-of_z {w = w64} (omega (arith, whole, nat_abs_is z))
 
 -- ---- there and back
 

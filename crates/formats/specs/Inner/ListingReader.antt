@@ -1,36 +1,21 @@
--- What the answers of the listing reader mean, by the declared types and the arrays that it fills. Definitions alone.
-use Rattle.std.specs.Prelude.{ℕ, suc, ◌+◌, ◌*◌, ◌-◌, ◌≤◌, ◌<◌, ◌≡◌, List, map, length, get_or, ℤ}
+-- What the answers of the listing reader mean, by the arrays that it fills. Definitions alone.
+use Rattle.std.specs.Prelude.{ℕ, suc, ◌*◌, ◌-◌, ◌≤◌, ◌≡◌, List, map, length, get_or, ℤ, Result, Ok, Err}
 use Rattle.quantities.specs.declared.length.Length.{Length}
 use Rattle.quantities.specs.declared.time.Time.{Time}
+use Rattle.tree.specs.declared.measures.Measures.{Measures}
 use Rattle.tree.specs.Lists.{range}
 use Rattle.tree.specs.Inner.Arrays.{point_at, tree_of}
-use Rattle.tree.specs.Tree.{Tree}
-use Rattle.tree.specs.Limits.{sink_limit}
 use Rattle.formats.specs.Outcome.{Outcome, value, refused, and_then}
 use Rattle.formats.specs.ListingText.{Listing}
 use Rattle.formats.specs.Reading.Lines.{Read, reading}
 use Rattle.formats.specs.Reading.Listings.{Stated, due_total, due_same, Vertex, due_leaf, due_node, read_vertices, parents_in}
-use Rattle.formats.specs.Inner.Readers.{ReadTo}
-use Rattle.formats.specs.declared.reader.Place.{Place}
-use Rattle.formats.specs.declared.read_listing.ListingRead.{ListingRead}
-use Rattle.formats.specs.declared.read_listing.ListingRead.TheVariants.{ListingHeld, ListingRefused}
-use Rattle.formats.specs.declared.read_listing.StatedLines.{StatedLines}
-use Rattle.formats.specs.declared.read_listing.StatedLines.TheVariants.{StatedRead, StatedRefused}
-use Rattle.formats.specs.declared.read_listing.VertexLine.{VertexLine}
-use Rattle.formats.specs.declared.read_listing.VertexLine.TheVariants.{VertexRead, VertexRefused}
-use Rattle.formats.specs.declared.read_listing.VertexLines.{VertexLines}
-use Rattle.formats.specs.declared.read_listing.VertexLines.TheVariants.{VerticesRead, VerticesRefused}
+use Rattle.formats.specs.declared.refusal.Refusal.{Refusal}
 
 -- the arrays have places for the 2n vertices
 abbrev pub HasVertices : ℕ → List ℕ → List ℤ → List ℤ → Type 0
 HasVertices n parents xs ys = (2 * n ≤ length parents) × (2 * n ≤ length xs) × (2 * n ≤ length ys)
 
 -- ---- the first three lines
-
--- an answer that comes to the outcome o on the text s
-abbrev pub StatedFrom : Outcome (Read Stated) → List ℕ → StatedLines → Type 0
-StatedFrom o s (StatedRead slack wire next) = ReadTo o (record { slack = slack.0; wire = wire.0 }) s 4 next
-StatedFrom o s (StatedRefused e) = o ≡ refused e
 
 -- the line of the count, where those before it are read; then from the line of the wire on
 abbrev pub from_same : ℕ → ℤ → ℕ → List ℕ → Outcome (Read Stated)
@@ -40,20 +25,6 @@ abbrev pub from_total : ℕ → ℤ → List ℕ → Outcome (Read Stated)
 from_total n slack s = and_then (due_total s) λ wire. from_same n slack wire.got wire.rest
 
 -- ---- the lines of the vertices
-
--- the line of vertex k of n sinks stands at `here`
-abbrev pub AtVertex : ℕ → ℕ → List ℕ → Place → Type 0
-AtVertex n k s here = (here.at ≤ length s) × (here.line ≡ k + 3) × (1 ≤ n) × (n ≤ sink_limit) × (k < 2 * n)
-
--- the line of a vertex, line l, whose step comes to the outcome o
-abbrev pub VertexSays : Outcome (Read Vertex) → List ℕ → ℕ → VertexLine → Type 0
-VertexSays o s l (VertexRead parent x y next) = ReadTo o (record { parent = parent; point = record { x = x; y = y } }) s (l + 1) next
-VertexSays o s l (VertexRefused e) = o ≡ refused e
-
--- the lines of some vertices, which come to the outcome o: what is got of them is a, and line l comes next
-abbrev pub LinesSay : {A : Type 0} → Outcome (Read A) → A → List ℕ → ℕ → VertexLines → Type 0
-LinesSay o a s l (VerticesRead next) = ReadTo o a s l next
-LinesSay o a s l (VerticesRefused e) = o ≡ refused e
 
 -- the parents of m vertices from a on, as an array holds them; the vertices, as arrays hold them
 abbrev pub parents_from : List ℕ → ℕ → ℕ → List ℕ
@@ -72,18 +43,13 @@ leaves_in n s = reading parents_in (read_vertices (due_leaf n) n 1 s)
 abbrev pub nodes_in : ℕ → List ℕ → Outcome (Read (List Vertex))
 nodes_in n s = read_vertices (due_node n) (n - 1) (suc n) s
 
--- the tree that the arrays hold, or the refusal
-abbrev pub tree_outcome : ℕ → VertexLines → List ℕ → List ℤ → List ℤ → Outcome Tree
-tree_outcome n (VerticesRead next) parents xs ys = value (tree_of n parents xs ys)
-tree_outcome n (VerticesRefused e) parents xs ys = refused e
-
 -- the listing that the arrays hold, or the refusal
 abbrev pub listing_held : Time → Length → ℕ → List ℕ → List ℤ → List ℤ → Listing
 listing_held slack wire n parents xs ys = record { slack = slack.0; wire = wire.0; tree = tree_of n parents xs ys }
 
-abbrev pub listing_outcome : ListingRead → ℕ → List ℕ → List ℤ → List ℤ → Outcome Listing
-listing_outcome (ListingHeld slack wire) n parents xs ys = value (listing_held slack wire n parents xs ys)
-listing_outcome (ListingRefused e) n parents xs ys = refused e
+abbrev pub listing_outcome : Result Measures Refusal → ℕ → List ℕ → List ℤ → List ℤ → Outcome Listing
+listing_outcome (Ok measures) n parents xs ys = value (listing_held measures.slack measures.wire n parents xs ys)
+listing_outcome (Err e) n parents xs ys = refused e
 
 -- the root and the sinks stand where they stood
 abbrev pub SinksKept : ℕ → List ℤ → List ℤ → List ℤ → List ℤ → Type 0

@@ -1,5 +1,5 @@
--- What the answers of the net reader mean, by the declared types and the arrays that it fills. Definitions alone.
-use Rattle.std.specs.Prelude.{ℕ, ◌+◌, ◌≤◌, ◌<◌, ◌≡◌, true, List, [], ◌∷◌, map, length, get_or, drop, set, ℤ, pos}
+-- What the answers of the readers of lines and of the net mean, by the declared types and the arrays that are filled. Definitions alone.
+use Rattle.std.specs.Prelude.{ℕ, ◌+◌, ◌^◌, ◌≤◌, ◌<◌, ◌≡◌, true, List, map, length, get_or, drop, ℤ, pos, Result, Ok, Err}
 use Rattle.quantities.specs.declared.metal_pair.MetalPair.{MetalPair}
 use Rattle.quantities.specs.declared.point.Point.{Point}
 use Rattle.quantities.specs.Inner.Linear.{up}
@@ -9,23 +9,45 @@ use Rattle.tree.specs.Net.{sink_numbers}
 use Rattle.tree.specs.Inner.Arrays.{point_at, net_of, weights_of}
 use Rattle.tree.specs.Limits.{position_limit, sink_limit}
 use Rattle.formats.specs.Outcome.{Outcome, value, refused, and_then}
-use Rattle.formats.specs.NetText.{WeightedSink, both}
-use Rattle.formats.specs.Reading.Lines.{inside, Read, due, due_number}
-use Rattle.formats.specs.Reading.Nets.{Head, due_branch, due_wire, due_need, due_count, sink_of, due_sink, read_rest, WeightedNet, net_with, read_weighted}
+use Rattle.formats.specs.NetText.{WeightedSink}
+use Rattle.formats.specs.Reading.Rows.{Row, row, misspelled}
+use Rattle.formats.specs.Reading.Lines.{inside, all_inside, Read, due, due_number}
+use Rattle.formats.specs.Reading.Nets.{Head, due_branch, due_wire, due_need, due_count, read_rest, WeightedNet, net_with, read_weighted}
+use Rattle.formats.specs.Inner.Scanning.{held}
+use Rattle.formats.specs.declared.number.Number.{Number}
 use Rattle.formats.specs.declared.ranges.Range.{Range}
-use Rattle.formats.specs.declared.refusal.Text.{Text}
+use Rattle.formats.specs.declared.refusal.Refusal.{Refusal}
+use Rattle.formats.specs.declared.refusal.Refusal.TheVariants.{NotDue}
 use Rattle.formats.specs.declared.refusal.Text.TheVariants.{InNet}
-use Rattle.formats.specs.declared.reader.Place.{Place}
-use Rattle.formats.specs.declared.read_number.NumberLine.{NumberLine}
-use Rattle.formats.specs.declared.read_number.NumberLine.TheVariants.{NumberRead, NumberRefused}
-use Rattle.formats.specs.declared.read_pair.PairLine.{PairLine}
-use Rattle.formats.specs.declared.read_pair.PairLine.TheVariants.{PairRead, PairRefused}
-use Rattle.formats.specs.declared.read_net.HeadLines.{HeadLines}
-use Rattle.formats.specs.declared.read_net.HeadLines.TheVariants.{HeadRead, HeadRefused}
-use Rattle.formats.specs.declared.read_net.SinkLine.{SinkLine}
-use Rattle.formats.specs.declared.read_net.SinkLine.TheVariants.{SinkRead, SinkRefused}
-use Rattle.formats.specs.declared.read_net.NetRead.{NetRead}
-use Rattle.formats.specs.declared.read_net.NetRead.TheVariants.{NetHeld, NetRefused}
+use Rattle.formats.specs.declared.reader.LineReader.{LineReader}
+use Rattle.formats.specs.declared.read_net.NetHead.{NetHead}
+
+-- ---- a reader, and the line that it has come to
+
+abbrev pub AtLine : LineReader → Type 0
+AtLine r = (r.at ≤ length r.text.now) × (r.line + 1 < 2 ^ 64)
+
+-- what is left of its text
+abbrev pub ahead : LineReader → List ℕ
+ahead r = drop r.at r.text.now
+
+-- where a line starts, and its number
+pub record Place : Type 0 where
+  pub at : ℕ
+  pub line : ℕ
+
+abbrev pub place : LineReader → Place
+place r = record { at = r.at; line = r.line }
+
+-- the answer to a line of numbers
+abbrev pub row_answer : LineReader → Row → Result (List Number) Refusal
+row_answer r (row zs k) = Ok (map held zs)
+row_answer r misspelled = Err (NotDue r.which r.line)
+
+-- the reader after that: it stays where the line is not as due
+abbrev pub row_moved : LineReader → Row → LineReader
+row_moved r (row zs k) = record r { at = r.at + k; line = r.line + 1 }
+row_moved r misspelled = r
 
 -- some lines of the text s were read as a, and line number `line` comes next, at `next`
 pub record ReadTo {A : Type 0} (o : Outcome (Read A)) (a : A) (s : List ℕ) (line : ℕ) (next : Place) : Type 0 where
@@ -33,42 +55,38 @@ pub record ReadTo {A : Type 0} (o : Outcome (Read A)) (a : A) (s : List ℕ) (li
   pub within : next.at ≤ length s
   pub line_is : next.line ≡ line
 
--- ---- a line of one number
+-- two readers of one text
+abbrev pub SameText : LineReader → LineReader → Type 0
+SameText r r' = (r'.which ≡ r.which) × (r'.text.now ≡ r.text.now)
 
--- the line at `here` has the number z, in its range
-pub record NumberTaken (t : Text) (key : List ℕ) (range : Range) (s : List ℕ) (here : Place) (z : ℤ) (next : Place) : Type 0 where
-  pub read_to : ReadTo (due_number t here.line key range (drop here.at s)) z s (here.line + 1) next
+-- ---- a line of numbers, each in its range
+
+-- the line has the numbers zs, and the reader r has come to r' after it
+pub record LineRead (key : List ℕ) (ranges : List Range) (r : LineReader) (zs : List ℤ) (r' : LineReader) : Type 0 where
+  pub read_to : ReadTo (due r.which r.line key ranges (ahead r)) zs r.text.now (r.line + 1) (place r')
+  pub in_ranges : all_inside ranges zs ≡ true
+  pub same_text : SameText r r'
+
+-- what an answer to it says: where it is refused the reader has stayed
+abbrev pub LineSays : List ℕ → List Range → LineReader → Result (List ℤ) Refusal → LineReader → Type 0
+LineSays key ranges r (Ok zs) r' = LineRead key ranges r zs r'
+LineSays key ranges r (Err e) r' = (due r.which r.line key ranges (ahead r) ≡ refused e) × (r' ≡ r)
+
+-- the same of a line of one number
+pub record NumberRead (key : List ℕ) (range : Range) (r : LineReader) (z : ℤ) (r' : LineReader) : Type 0 where
+  pub read_to : ReadTo (due_number r.which r.line key range (ahead r)) z r.text.now (r.line + 1) (place r')
   pub in_range : inside range z ≡ true
+  pub same_text : SameText r r'
 
-abbrev pub NumberSays : Text → List ℕ → Range → List ℕ → Place → NumberLine → Type 0
-NumberSays t key range s here (NumberRead z next) = NumberTaken t key range s here z next
-NumberSays t key range s here (NumberRefused e) = due_number t here.line key range (drop here.at s) ≡ refused e
-
--- ---- a line of two numbers in one range
-
--- the line at `here` of a net has the numbers x and y, in their range
-pub record PairTaken (key : List ℕ) (range : Range) (s : List ℕ) (here : Place) (x y : ℤ) (next : Place) : Type 0 where
-  pub read_to : ReadTo (due InNet here.line key (both range) (drop here.at s)) (x ∷ (y ∷ [])) s (here.line + 1) next
-  pub in_range : (inside range x ≡ true) × (inside range y ≡ true)
-
-abbrev pub PairSays : List ℕ → Range → List ℕ → Place → PairLine → Type 0
-PairSays key range s here (PairRead x y next) = PairTaken key range s here x y next
-PairSays key range s here (PairRefused e) = due InNet here.line key (both range) (drop here.at s) ≡ refused e
+abbrev pub NumberSays : List ℕ → Range → LineReader → Result ℤ Refusal → LineReader → Type 0
+NumberSays key range r (Ok z) r' = NumberRead key range r z r'
+NumberSays key range r (Err e) r' = (due_number r.which r.line key range (ahead r) ≡ refused e) × (r' ≡ r)
 
 -- ---- the head of a net
 
 -- the head that a program holds, with n sinks
 abbrev pub head_of : Header → Point → ℕ → Head
 head_of h root n = record { root = root; branch = up h.branch.0; wire = h.wire; need = h.need.0; count = n }
-
--- the lines of at most so many sinks start at `next`, in the text, with line 6; the root is in range
-abbrev pub AtSinks : ℕ → List ℕ → Point → ℕ → Place → Type 0
-AtSinks most s root n next = (n ≤ most) × (next.at ≤ length s) × (next.line ≡ 6) × PointWithin position_limit root
-
--- an answer that comes to the outcome o on the text s
-abbrev pub HeadSays : Outcome (Read Head) → List ℕ → HeadLines → Type 0
-HeadSays o s (HeadRead h root n next) = (o ≡ value (record { got = head_of h root n; rest = drop next.at s })) × AtSinks sink_limit s root n next
-HeadSays o s (HeadRefused e) = o ≡ refused e
 
 -- the lines from `sinks=` on, where those before it are read; then from each line before it on
 abbrev pub from_count : Point → ℕ → MetalPair → ℤ → List ℕ → Outcome (Read Head)
@@ -85,17 +103,27 @@ from_wire root c s = and_then (due_wire s) λ wire. from_need root c wire.got wi
 abbrev pub from_branch : Point → List ℕ → Outcome (Read Head)
 from_branch root s = and_then (due_branch s) λ branch. from_wire root branch.got branch.rest
 
+-- the reader is at the lines of at most so many sinks, of which line 6 is the first; the root is in range
+pub record AtSinks (most : ℕ) (head : NetHead) : Type 0 where
+  pub at_most : head.n ≤ most
+  pub within : head.sinks.at ≤ length head.sinks.text.now
+  pub line_is : head.sinks.line ≡ 6
+  pub which_is : head.sinks.which ≡ InNet
+  pub root_within : PointWithin position_limit head.root
+
 -- what is left to read of the text s after its head
 abbrev pub after_head : Header → Point → ℕ → List ℕ → Outcome WeightedNet
 after_head h root n s = and_then (read_rest root n s) λ sinks. value (net_with (head_of h root n) sinks)
 
 -- the head of the text s is read, with at most so many sinks
-abbrev pub HeadHeld : ℕ → List ℕ → Header → Point → ℕ → Place → Type 0
-HeadHeld most s h root n next = (read_weighted s ≡ after_head h root n (drop next.at s)) × AtSinks most s root n next
+pub record HeadHeld (most : ℕ) (s : List ℕ) (head : NetHead) : Type 0 where
+  pub text_is : head.sinks.text.now ≡ s
+  pub reads : read_weighted s ≡ after_head head.header head.root head.n (ahead head.sinks)
+  pub at_sinks : AtSinks most head
 
-abbrev pub NetHeadSays : List ℕ → HeadLines → Type 0
-NetHeadSays s (HeadRead h root n next) = HeadHeld sink_limit s h root n next
-NetHeadSays s (HeadRefused e) = read_weighted s ≡ refused e
+abbrev pub NetHeadSays : List ℕ → Result NetHead Refusal → Type 0
+NetHeadSays s (Ok head) = HeadHeld sink_limit s head
+NetHeadSays s (Err e) = read_weighted s ≡ refused e
 
 -- ---- the sinks
 
@@ -110,24 +138,7 @@ sink_held xs ys required weights i = record { sink = record { point = point_at x
 abbrev pub sinks_held : List ℤ → List ℤ → List ℤ → List ℤ → ℕ → List WeightedSink
 sinks_held xs ys required weights n = map (sink_held xs ys required weights) (sink_numbers n)
 
--- the line of a sink was read into the place i of the arrays, and the next line stands at `next`
-pub record SinkStored (root : Point) (s : List ℕ) (here : Place) (i : ℕ) (xs ys required weights : List ℤ) (next : Place) (xs' ys' required' weights' : List ℤ) : Type 0 where
-  pub x : ℤ
-  pub y : ℤ
-  pub a : ℤ
-  pub w : ℤ
-  pub read_to : ReadTo (due_sink root here.line (drop here.at s)) (sink_of (x ∷ (y ∷ (a ∷ (w ∷ []))))) s (here.line + 1) next
-  pub xs_is : xs' ≡ set xs i x
-  pub ys_is : ys' ≡ set ys i y
-  pub required_is : required' ≡ set required i a
-  pub weights_is : weights' ≡ set weights i w
-
--- what an answer to the line of a sink at `here` says: the arrays with a stroke are those after it
-abbrev pub SinkSays : Point → List ℕ → Place → ℕ → List ℤ → List ℤ → List ℤ → List ℤ → SinkLine → List ℤ → List ℤ → List ℤ → List ℤ → Type 0
-SinkSays root s here i xs ys required weights (SinkRead next) xs' ys' required' weights' = SinkStored root s here i xs ys required weights next xs' ys' required' weights'
-SinkSays root s here i xs ys required weights (SinkRefused e) xs' ys' required' weights' = due_sink root here.line (drop here.at s) ≡ refused e
-
 -- the net that the arrays hold under the header h with its weights, or the refusal
-abbrev pub net_outcome : Header → ℕ → NetRead → List ℤ → List ℤ → List ℤ → List ℤ → Outcome WeightedNet
-net_outcome h n NetHeld xs ys required weights = value (record { net = net_of h n xs ys required; weights = weights_of n weights })
-net_outcome h n (NetRefused e) xs ys required weights = refused e
+abbrev pub net_outcome : Header → ℕ → Result Unit Refusal → List ℤ → List ℤ → List ℤ → List ℤ → Outcome WeightedNet
+net_outcome h n (Ok u) xs ys required weights = value (record { net = net_of h n xs ys required; weights = weights_of n weights })
+net_outcome h n (Err e) xs ys required weights = refused e

@@ -1,7 +1,6 @@
 -- What the writer leaves in a text. Definitions alone.
 use Rattle.std.specs.Prelude.{ℕ, ◌+◌, ◌<◌, ◌≡◌, List, [], ◌∷◌, ◌++◌, length, take, drop, ℤ, pos, nat_abs}
 use Rattle.formats.specs.Decimal.{show}
-use Rattle.formats.specs.Bytes.{comma}
 use Rattle.formats.specs.Line.{line_text}
 use Rattle.formats.specs.NetText.{wire_key, sinks_key}
 use Rattle.formats.specs.ListingText.{slack_key}
@@ -18,12 +17,9 @@ Puts l at s end left = (end ≡ at + length s) × (left ≡ over l at s)
 abbrev pub Writable : ℤ → Type 0
 Writable z = nat_abs z < 10_000_000_000_000_000
 
--- one number with a byte after it, and two with a comma between them
+-- a number with a byte after it
 abbrev pub one_then : ℤ → ℕ → List ℕ
 one_then a stop = show a ++ (stop ∷ [])
-
-abbrev pub two_then : ℤ → ℤ → ℕ → List ℕ
-two_then a b stop = show a ++ (comma ∷ one_then b stop)
 
 -- the first three lines of a listing
 abbrev pub head_text : ℤ → ℕ → ℕ → List ℕ

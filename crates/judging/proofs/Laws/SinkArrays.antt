@@ -8,13 +8,13 @@ use lib.ListN.{length, get_or, set, take, drop, take-append-drop}
 use lib.Seq.{take-suc, length-take-le}
 use lib.IntN.{ℤ, pos, ◌+ℤ◌, ◌-ℤ◌}
 use Rattle.quantities.specs.Ranges.{Within}
-use Rattle.tree.specs.declared.header.Header.{Header}
+use Rattle.tree.specs.declared.view.NetView.{NetView}
 use Rattle.tree.specs.Lists.{count, down, range}
 use Rattle.tree.specs.Net.{Net, size, own_slack, own_slacks}
 use Rattle.tree.specs.Kraft.{IsKraftMaximum}
 use Rattle.tree.specs.Planning.{order}
 use Rattle.tree.specs.Limits.{sink_limit}
-use Rattle.tree.specs.Inner.Arrays.{net_of, HoldsNet}
+use Rattle.tree.specs.Inner.Views.{viewed_net}
 use Rattle.tree.specs.SmallestSlack.{sinks_in, next_sink}
 use Rattle.tree.proofs.Laws.Arrays.ReadyNet.{few_sinks, line_at, line_in_lem}
 use Rattle.judging.specs.Inner.SinkSplits.{SinksReady, Kept, LargestAt, absent_limit, absent, worst_if_split}
@@ -143,15 +143,18 @@ module _ {N : Net} {branch : ℤ} {n : ℕ} {own : List ℤ} {sinks : List ℕ} 
           stored : slacks' ≡ set (set slacks v lowered) next (own_slack N next -ℤ own_slack N v +ℤ lowered)
           stored = slacks_is ∙ (λ i. set (set slacks v (get_or slacks v (pos 0) -ℤ A.ready.branch_is i)) (s_next i) (own_next i -ℤ A.ready.own_is v best.from best.to i +ℤ (get_or slacks v (pos 0) -ℤ A.ready.branch_is i)))
 
--- ---- the arrays of a net that is held
+-- ---- the arrays of a net that is lent
 
-module _ (h : Header) (n : ℕ) (xs ys rs : List ℤ) (held : HoldsNet h n xs ys rs) where
-  pub some_held : (1 ≤ n) × (n ≤ sink_limit)
-  some_held = omega (arith, held.in_range.sinks, size_is h n xs ys rs)
+module _ (v : NetView) where
+  pub some_viewed : (1 ≤ v.n) × (v.n ≤ sink_limit)
+  some_viewed = omega (arith, v.held.in_range.sinks, size_is v.header v.n v.xs.now v.ys.now v.required.now)
 
-  pub sorted : (own : List ℤ) (sinks : List ℕ) → n < length own → ((s : ℕ) → 1 ≤ s → s ≤ n → get_or own s (pos 0) ≡ own_slack (net_of h n xs ys rs) s)
-      → n ≤ length sinks → take n sinks ≡ order (net_of h n xs ys rs) → SinksReady (net_of h n xs ys rs) h.branch.0 n own sinks
-  sorted own sinks ol oi sl so = record {
-    ready = record { in_range = held.in_range; size_is = size_is h n xs ys rs; branch_is = branch_is h n xs ys rs held; own_long = ol; own_is = oi };
-    lined = record { long = sl; sinks_are = so };
-  }
+  pub sorted : (own : List ℤ) (sinks : List ℕ) → v.n < length own → ((s : ℕ) → 1 ≤ s → s ≤ v.n → get_or own s (pos 0) ≡ own_slack (viewed_net v) s) → v.n ≤ length sinks
+      → ((N : Net) → size N ≡ v.n → ((s : ℕ) → 1 ≤ s → s ≤ v.n → get_or own s (pos 0) ≡ own_slack N s) → take v.n sinks ≡ order N)
+      → SinksReady (viewed_net v) v.header.branch.0 v.n own sinks
+  sorted own sinks ol oi sl so =
+      let e = size_is v.header v.n v.xs.now v.ys.now v.required.now in
+      record {
+        ready = record { in_range = v.held.in_range; size_is = e; branch_is = branch_is v.header v.n v.xs.now v.ys.now v.required.now v.held; own_long = ol; own_is = oi };
+        lined = record { long = sl; sinks_are = so (viewed_net v) e oi };
+      }

@@ -4,4 +4,4 @@ use Rattle.scoring.proofs.Laws.RoutersScore.{score_number}
 use Rattle.marked.proofs.show_score.Goals as goal
 
 pub float_to_bits-bits : goal.float_to_bits-bits
-float_to_bits-bits c = score_number _ _ _ _ _ c.in-Scored.given (sym c.in-Scored.is ∙ c.score.ensures)
+float_to_bits-bits c = score_number _ _ _ _ _ c.in-Ok.given (sym c.in-Ok.is ∙ c.score.ensures)

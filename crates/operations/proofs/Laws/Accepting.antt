@@ -4,7 +4,7 @@ use mathlib.Core.Path.{◌≡◌, refl, sym, ap₂, ◌∙◌}
 use mathlib.Core.Bool.{Bool, true, false, ◌&&◌}
 use mathlib.Core.Logic.{◌≢◌, ◌⊎◌, inl, inr}
 use mathlib.Core.List.{List}
-use mathlib.Core.Option.{Option, none, some}
+use Rattle.std.specs.Prelude.{Option, None, Some}
 use native.Mathlib.Omega.{arith}
 use native.Mathlib.Decide.{dec_le}
 use borrow.Author.Tests.{eq-eqb, eqb-true, eqb-false}
@@ -75,15 +75,15 @@ module _ (N : Net) (G : Listing) where
   by a b = unless_found WrongChildren a (unless_found NotReached b (true_only N G))
 
   pub tree_cases : {C : Type 0} (o : Outcome Listing) → accept_tree N G ≡ o
-      → ((v : ℕ) → wrong_children (size N) G.tree.parents ≡ some v → o ≡ refused (WrongChildren (vertex_line v)) → C)
-      → (wrong_children (size N) G.tree.parents ≡ none → (v : ℕ) → unreached (size N) G.tree.parents ≡ some v → o ≡ refused (NotReached (vertex_line v)) → C)
-      → (wrong_children (size N) G.tree.parents ≡ none → unreached (size N) G.tree.parents ≡ none → true_only N G ≡ o → C) → C
+      → ((v : ℕ) → wrong_children (size N) G.tree.parents ≡ Some v → o ≡ refused (WrongChildren (vertex_line v)) → C)
+      → (wrong_children (size N) G.tree.parents ≡ None → (v : ℕ) → unreached (size N) G.tree.parents ≡ Some v → o ≡ refused (NotReached (vertex_line v)) → C)
+      → (wrong_children (size N) G.tree.parents ≡ None → unreached (size N) G.tree.parents ≡ None → true_only N G ≡ o → C) → C
   tree_cases {C = C} o h wrong lost f = go (wrong_children (size N) G.tree.parents) refl (unreached (size N) G.tree.parents) refl
     where
       go : (a : Option ℕ) → wrong_children (size N) G.tree.parents ≡ a → (b : Option ℕ) → unreached (size N) G.tree.parents ≡ b → C
-      go (some v) e b g = wrong v e (sym h ∙ ap₂ by e g)
-      go none e (some v) g = lost e v g (sym h ∙ ap₂ by e g)
-      go none e none g = f e g (sym (ap₂ by e g) ∙ h)
+      go (Some v) e b g = wrong v e (sym h ∙ ap₂ by e g)
+      go None e (Some v) g = lost e v g (sym h ∙ ap₂ by e g)
+      go None e None g = f e g (sym (ap₂ by e g) ∙ h)
 
   -- what a listing that was read makes sure of
   pub read_shape : {s : List ℕ} → ListingInFormat (size N) s G → NoSinkParent (size N) G.tree.parents → Read (size N) G.tree.parents

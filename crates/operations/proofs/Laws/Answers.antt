@@ -3,6 +3,7 @@ use Prim.Native.Nat.{ℕ, ◌≤◌, ◌<◌}
 use mathlib.Core.Path.{◌≡◌, refl, ap, ap₂}
 use mathlib.Core.Bool.{Bool, true, false}
 use mathlib.Core.List.{List}
+use Rattle.std.specs.Prelude.{Result, Ok, Err}
 use native.Mathlib.Omega.{arith}
 use borrow.Author.Tests.{ltb-true, ltb-false}
 use lib.ListN.{length, drop, length-append, length-drop}
@@ -21,10 +22,8 @@ use Rattle.formats.proofs.Laws.Lines.Outcomes.{then_refused}
 use Rattle.formats.proofs.Laws.Lines.Refusals.{numbered, told_one}
 use Rattle.operations.specs.Accepting.{accepted}
 use Rattle.operations.specs.Answers.{Written, plan_listing, plan_net, plan_of, overwritten, plan_figures, judge_of, judge_figures}
-use Rattle.operations.specs.declared.answers.PlanAnswer.{PlanAnswer}
-use Rattle.operations.specs.declared.answers.PlanAnswer.TheVariants.{Planned, PlanRefused}
-use Rattle.operations.specs.declared.answers.JudgeAnswer.{JudgeAnswer}
-use Rattle.operations.specs.declared.answers.JudgeAnswer.TheVariants.{Judged, JudgeRefused}
+use Rattle.operations.specs.declared.answers.Planned.{Planned}
+use Rattle.operations.specs.declared.answers.Judged.{Judged}
 
 -- ---- a net that is refused as it is read
 
@@ -74,14 +73,14 @@ overwritten_length w out h = omega (arith, length-append w (drop (length w) out)
 
 -- ---- figures
 
-pub plan_one : (a b : PlanAnswer) → plan_figures a ≡ plan_figures b → a ≡ b
-plan_one (Planned slack wire bytes) (Planned slack' wire' bytes') e = λ i. Planned (record { 0 = (e i).slack }) (record { 0 = (e i).wire }) (e i).bytes
-plan_one (Planned slack wire bytes) (PlanRefused f) e = absurd (omega (arith, numbered f, ap (λ r. r.number) e))
-plan_one (PlanRefused f) (Planned slack wire bytes) e = absurd (omega (arith, numbered f, ap (λ r. r.number) e))
-plan_one (PlanRefused f) (PlanRefused g) e = ap PlanRefused (told_one f g (λ i. record { number = (e i).number; text = (e i).text; line = (e i).line }))
+pub plan_one : (a b : Result Planned Refusal) → plan_figures a ≡ plan_figures b → a ≡ b
+plan_one (Ok p) (Ok q) e = λ i. Ok (record { slack = record { 0 = (e i).slack }; wire = record { 0 = (e i).wire }; bytes = (e i).bytes })
+plan_one (Ok p) (Err f) e = absurd (omega (arith, numbered f, ap (λ r. r.number) e))
+plan_one (Err f) (Ok p) e = absurd (omega (arith, numbered f, ap (λ r. r.number) e))
+plan_one (Err f) (Err g) e = ap Err (told_one f g (λ i. record { number = (e i).number; text = (e i).text; line = (e i).line }))
 
-pub judge_one : (a b : JudgeAnswer) → judge_figures a ≡ judge_figures b → a ≡ b
-judge_one (Judged slack wire best) (Judged slack' wire' best') e = λ i. Judged (record { 0 = (e i).slack }) (record { 0 = (e i).wire }) (record { 0 = (e i).best })
-judge_one (Judged slack wire best) (JudgeRefused f) e = absurd (omega (arith, numbered f, ap (λ r. r.number) e))
-judge_one (JudgeRefused f) (Judged slack wire best) e = absurd (omega (arith, numbered f, ap (λ r. r.number) e))
-judge_one (JudgeRefused f) (JudgeRefused g) e = ap JudgeRefused (told_one f g (λ i. record { number = (e i).number; text = (e i).text; line = (e i).line }))
+pub judge_one : (a b : Result Judged Refusal) → judge_figures a ≡ judge_figures b → a ≡ b
+judge_one (Ok j) (Ok k) e = λ i. Ok (record { slack = record { 0 = (e i).slack }; wire = record { 0 = (e i).wire }; best = record { 0 = (e i).best } })
+judge_one (Ok j) (Err f) e = absurd (omega (arith, numbered f, ap (λ r. r.number) e))
+judge_one (Err f) (Ok j) e = absurd (omega (arith, numbered f, ap (λ r. r.number) e))
+judge_one (Err f) (Err g) e = ap Err (told_one f g (λ i. record { number = (e i).number; text = (e i).text; line = (e i).line }))

@@ -4,7 +4,7 @@ use mathlib.Core.Path.{◌≡◌, refl, sym, ap, ◌∙◌}
 use mathlib.Core.Bool.{true, false, ◌&&◌}
 use mathlib.Core.Logic.{⊎_elim}
 use mathlib.Core.List.{List}
-use mathlib.Core.Option.{none, some}
+use Rattle.std.specs.Prelude.{None, Some}
 use native.Mathlib.Omega.{arith}
 use lib.IntN.{ℤ}
 use lib.Signed.{le_z}
@@ -30,10 +30,10 @@ line_below (suc v) h = refl
 
 -- ---- what is found is a vertex
 
-pub wrong_vertex : (n : ℕ) (P : List ℕ) (v : ℕ) → 1 ≤ n → wrong_children n P ≡ some v → v < 2 * n
+pub wrong_vertex : (n : ℕ) (P : List ℕ) (v : ℕ) → 1 ≤ n → wrong_children n P ≡ Some v → v < 2 * n
 wrong_vertex n P v h e = ⊎_elim (λ z. omega arith) (λ z. omega (arith, z.1.below)) (wrong_lowest n P v e)
 
-pub lost_vertex : (n : ℕ) (P : List ℕ) (v : ℕ) → 1 ≤ n → unreached n P ≡ some v → v < 2 * n
+pub lost_vertex : (n : ℕ) (P : List ℕ) (v : ℕ) → 1 ≤ n → unreached n P ≡ Some v → v < 2 * n
 lost_vertex n P v h e = omega (arith, (unreached_lowest n P v e).below)
 
 -- ---- 9, 10, or neither
@@ -42,17 +42,17 @@ module _ (N : Net) (G : Listing) (n : ℕ) (sized : size N ≡ n) where
   counted : accept_tree N G ≡ unless_found WrongChildren (wrong_children n G.tree.parents) (unless_found NotReached (unreached n G.tree.parents) (true_only N G))
   counted = ap (λ m. unless_found WrongChildren (wrong_children m G.tree.parents) (unless_found NotReached (unreached m G.tree.parents) (true_only N G))) sized
 
-  pub wrong_refused : (v line : ℕ) → wrong_children n G.tree.parents ≡ some v → line ≡ vertex_line v → refused (WrongChildren line) ≡ accept_tree N G
+  pub wrong_refused : (v line : ℕ) → wrong_children n G.tree.parents ≡ Some v → line ≡ vertex_line v → refused (WrongChildren line) ≡ accept_tree N G
   wrong_refused v line e q = ap (λ l. refused (WrongChildren l)) q ∙ sym (counted ∙ ap (λ f. unless_found WrongChildren f (unless_found NotReached (unreached n G.tree.parents) (true_only N G))) e)
 
-  module _ (right : wrong_children n G.tree.parents ≡ none) where
+  module _ (right : wrong_children n G.tree.parents ≡ None) where
     reached : accept_tree N G ≡ unless_found NotReached (unreached n G.tree.parents) (true_only N G)
     reached = counted ∙ ap (λ f. unless_found WrongChildren f (unless_found NotReached (unreached n G.tree.parents) (true_only N G))) right
 
-    pub lost_refused : (v line : ℕ) → unreached n G.tree.parents ≡ some v → line ≡ vertex_line v → refused (NotReached line) ≡ accept_tree N G
+    pub lost_refused : (v line : ℕ) → unreached n G.tree.parents ≡ Some v → line ≡ vertex_line v → refused (NotReached line) ≡ accept_tree N G
     lost_refused v line e q = ap (λ l. refused (NotReached l)) q ∙ sym (reached ∙ ap (λ f. unless_found NotReached f (true_only N G)) e)
 
-    pub legal_judged : unreached n G.tree.parents ≡ none → (o : Outcome Listing) → o ≡ true_only N G → o ≡ accept_tree N G
+    pub legal_judged : unreached n G.tree.parents ≡ None → (o : Outcome Listing) → o ≡ true_only N G → o ≡ accept_tree N G
     legal_judged e o q = q ∙ sym (reached ∙ ap (λ f. unless_found NotReached f (true_only N G)) e)
 
 -- ---- 11, 12, or accepted

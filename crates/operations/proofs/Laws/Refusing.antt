@@ -3,7 +3,7 @@ use Prim.Native.Nat.{ℕ}
 use mathlib.Core.Path.{◌≡◌, refl, sym, ap, subst, ◌∙◌}
 use mathlib.Core.Logic.{◌↔◌, ◌≢◌}
 use mathlib.Core.List.{List}
-use mathlib.Core.Option.{none}
+use Rattle.std.specs.Prelude.{None}
 use native.Mathlib.Omega.{arith}
 use lib.Signed.{◌<ℤ◌}
 use Rattle.quantities.specs.Inner.Linear.{whole}
@@ -98,7 +98,7 @@ module _ (net listing : List ℕ) (N : Net) (G : Listing) (B : BothRead net list
   shape : Read (size N) G.tree.parents
   shape = read_shape N G B.listing_format B.no_sink_lem
 
-  right : wrong_children (size N) G.tree.parents ≡ none → RightChildren (size N) G.tree.parents
+  right : wrong_children (size N) G.tree.parents ≡ None → RightChildren (size N) G.tree.parents
   right = (right_children (size N) G.tree.parents shape.some_sink).0
 
   tree_refuses : (e : Refusal) → accept_tree N G ≡ refused e → JudgeRefuses net listing e

@@ -4,6 +4,7 @@ use mathlib.Core.Path.{◌≡◌, refl, sym, ap, ◌∙◌, subst}
 use mathlib.Core.Logic.{◌↔◌, ◌≢◌}
 use mathlib.Core.Bool.{Bool, true, false}
 use mathlib.Core.List.{List, ◌++◌}
+use Rattle.std.specs.Prelude.{Result, Err}
 use native.Mathlib.Omega.{arith}
 use borrow.Author.Tests.{ltb-true, ltb-false, le-ltb}
 use lib.ListN.{length, take, drop}
@@ -31,8 +32,7 @@ use Rattle.formats.proofs.Laws.TextLengths.{listing_in_format}
 use Rattle.operations.specs.Answers.{Written, stated, emitted, bytes_of, overwritten, plan_answer, judge_of}
 use Rattle.operations.specs.Demands.{with_need}
 use Rattle.operations.specs.TreePlans.{Make, tree_listing, tree_plan_of, tree_plan_output, TreePlanRefuses, TreePlan}
-use Rattle.operations.specs.declared.answers.PlanAnswer.{PlanAnswer}
-use Rattle.operations.specs.declared.answers.PlanAnswer.TheVariants.{PlanRefused}
+use Rattle.operations.specs.declared.answers.Planned.{Planned}
 use Rattle.operations.proofs.Laws.Answers.{overwritten_beyond, overwritten_length}
 use Rattle.operations.proofs.Laws.PlanListing.{stated_in_range}
 use Rattle.operations.proofs.Laws.Needless.{same_worst, same_wire}
@@ -48,13 +48,13 @@ pub record Makes (make : Make) : Type 0 where
 -- ---- the answer, by what was read: for the contracts
 
 module _ (make : Make) (net out : List ℕ) where
-  pub tree_refused_answer : (e : Refusal) → read_weighted net ≡ refused e → (PlanRefused e ≡ plan_answer (tree_plan_of make net (length out))) × (out ≡ tree_plan_output make net out)
+  pub tree_refused_answer : (e : Refusal) → read_weighted net ≡ refused e → (Err e ≡ plan_answer (tree_plan_of make net (length out))) × (out ≡ tree_plan_output make net out)
   unfolding tree_plan_of tree_plan_output
   tree_refused_answer e h =
       let p = then_refused (λ M. emitted (size M.net) (stated M.net (make M.net M.weights)) (length out)) h in
       (sym (ap plan_answer p), sym (ap (λ o. overwritten (bytes_of o) out) p))
 
-  pub tree_read_answer : (left : List ℕ) (N : Net) (w : List ℕ) (n : ℕ) (G : Listing) (r : PlanAnswer) → read_weighted net ≡ value (record { net = N; weights = w }) → size N ≡ n → G ≡ stated N (make N w)
+  pub tree_read_answer : (left : List ℕ) (N : Net) (w : List ℕ) (n : ℕ) (G : Listing) (r : Result Planned Refusal) → read_weighted net ≡ value (record { net = N; weights = w }) → size N ≡ n → G ≡ stated N (make N w)
       → r ≡ plan_answer (emitted n G (length out)) → left ≡ overwritten (bytes_of (emitted n G (length out))) out → (r ≡ plan_answer (tree_plan_of make net (length out))) × (left ≡ tree_plan_output make net out)
   unfolding tree_plan_of tree_plan_output
   tree_read_answer left N w n G r h sized made e f =

@@ -4,6 +4,7 @@ use mathlib.Core.Path.{◌≡◌, refl, sym, ap, ap₂, subst, ◌∙◌}
 use mathlib.Core.Bool.{Bool, true, false, ◌&&◌, ◌||◌}
 use mathlib.Core.Logic.{◌≢◌, ◌⊎◌, inl, inr}
 use mathlib.Core.List.{List}
+use Rattle.std.specs.Prelude.{Result, Ok, Err}
 use native.Mathlib.Nat.{zero-add}
 use native.Mathlib.Decide.{dec_le}
 use native.Mathlib.Omega.{arith}
@@ -14,25 +15,26 @@ use lib.Dec as dec
 use Rattle.tree.specs.Net.{Net, size}
 use Rattle.tree.specs.Tree.{Tree}
 use Rattle.tree.proofs.Laws.Lists.Sums.{equal?}
-use Rattle.formats.specs.Outcome.{Outcome, value, refused}
+use Rattle.formats.specs.Outcome.{Outcome, value, refused, and_then}
 use Rattle.formats.specs.Inner.Writing.{Puts, over}
-use Rattle.formats.specs.Reading.Nets.{read_weighted}
+use Rattle.formats.specs.Reading.Nets.{WeightedNet, read_weighted}
 use Rattle.formats.specs.ListingText.{Listing}
 use Rattle.formats.specs.declared.refusal.Refusal.{Refusal}
 use Rattle.formats.specs.declared.refusal.Refusal.TheVariants.{TooShort, NotASink, OnlySink}
 use Rattle.formats.proofs.Laws.Lines.Outcomes.{then_value, then_refused}
 use Rattle.operations.specs.Accepting.{accept_listing}
+use Rattle.operations.specs.Inner.Acceptance.{accepted_over}
+use Rattle.operations.proofs.Laws.AcceptedOver.{both_read}
 use Rattle.pin_deletion.specs.Deletions.{Shorter, shorter, both_fit, is_sink, deleted, deletion_of, net_output, listing_output, deletion_answer}
 use Rattle.shorter_tree.specs.Kept.{Deletable}
 use Rattle.pin_deletion.specs.Inner.Answers.{deleted_over, Answers}
-use Rattle.pin_deletion.specs.declared.delete_pin.DeletionAnswer.{DeletionAnswer}
-use Rattle.pin_deletion.specs.declared.delete_pin.DeletionAnswer.TheVariants.{Deleted, DeletionRefused}
+use Rattle.pin_deletion.specs.declared.delete_pin.Deleted.{Deleted}
 
 -- ---- the sink
 
-pub below_one : (n s : ℕ) → s < 1 → false ≡ is_sink n s
+pub below_one : (n s : ℕ) → s < 1 → leb 1 s ≡ is_sink n s
 unfolding is_sink
-below_one n s h = sym (ap (λ t. t && leb s n) (lt-leb 1 s h))
+below_one n s h = lt-leb 1 s h ∙ sym (ap (λ t. t && leb s n) (lt-leb 1 s h))
 
 pub from_one : (n s : ℕ) → 1 ≤ s → leb s n ≡ is_sink n s
 unfolding is_sink
@@ -112,19 +114,19 @@ sink_cases {C = C} N w T s net_room listing_room o h none only goes = go (is_sin
 -- ---- the answers
 
 module _ (net_out listing_out : List ℕ) where
-  pub refused_answers : (o : Outcome Shorter) (e : Refusal) → o ≡ refused e → Answers o net_out listing_out (DeletionRefused e) net_out listing_out
+  pub refused_answers : (o : Outcome Shorter) (e : Refusal) → o ≡ refused e → Answers o net_out listing_out (Err e) net_out listing_out
   refused_answers o e h = rw h (refl, refl, refl)
 
   -- the texts stand at the starts of the outputs, which are then as left
   pub written_answers : (o : Outcome Shorter) (t : Shorter) → o ≡ value t → (net_end listing_end : ℕ) (net_left listing_left : List ℕ) → Puts net_out 0 t.net net_end net_left → Puts listing_out 0 t.listing listing_end listing_left
-      → Answers o net_out listing_out (Deleted net_end listing_end) net_left listing_left
+      → Answers o net_out listing_out (Ok (record { net_bytes = net_end; listing_bytes = listing_end })) net_left listing_left
   unfolding over
   written_answers o t h net_end listing_end net_left listing_left p q =
       let e : net_end ≡ length t.net = omega (arith, p.0) in
       let f : listing_end ≡ length t.listing = omega (arith, q.0) in
-      rw h ((λ i. Deleted (e i) (f i)), p.1 ∙ rw zero-add refl, q.1 ∙ rw zero-add refl)
+      rw h ((λ i. Ok (record { net_bytes = e i; listing_bytes = f i })), p.1 ∙ rw zero-add refl, q.1 ∙ rw zero-add refl)
 
-  pub same_answers : (o p : Outcome Shorter) (r : DeletionAnswer) (net_left listing_left : List ℕ) → o ≡ p → Answers o net_out listing_out r net_left listing_left → Answers p net_out listing_out r net_left listing_left
+  pub same_answers : (o p : Outcome Shorter) (r : Result Deleted Refusal) (net_left listing_left : List ℕ) → o ≡ p → Answers o net_out listing_out r net_left listing_left → Answers p net_out listing_out r net_left listing_left
   same_answers o p r net_left listing_left h a = rw (← h) a
 
 -- ---- any bytes
@@ -145,8 +147,29 @@ module _ (N : Net) (w listing : List ℕ) (s net_room listing_room : ℕ) where
   pub listing_accepted : (G : Listing) → accept_listing N listing ≡ value G → deleted_over N w listing s net_room listing_room ≡ deleted N w G.tree s net_room listing_room
   listing_accepted G h = then_value _ h
 
+-- the deletion by what is accepted over the net
+module _ (net listing : List ℕ) (s net_room listing_room : ℕ) where
+  deletion_over : deletion_of net listing s net_room listing_room ≡ and_then (accepted_over net listing) (λ p. deleted p.net.net p.net.weights p.listing.tree s net_room listing_room)
+  unfolding deletion_of
+  deletion_over = go (read_weighted net)
+    where
+      at_listing : (K : WeightedNet) (o : Outcome Listing) → and_then o (λ G. deleted K.net K.weights G.tree s net_room listing_room) ≡ and_then (and_then o (both_read K)) (λ p. deleted p.net.net p.net.weights p.listing.tree s net_room listing_room)
+      at_listing K (value G) = refl
+      at_listing K (refused d) = refl
+
+      go : (o : Outcome WeightedNet) → and_then o (λ M. and_then (accept_listing M.net listing) (λ G. deleted M.net M.weights G.tree s net_room listing_room))
+          ≡ and_then (and_then o (λ M. and_then (accept_listing M.net listing) (both_read M))) (λ p. deleted p.net.net p.net.weights p.listing.tree s net_room listing_room)
+      go (value K) = at_listing K (accept_listing K.net listing)
+      go (refused d) = refl
+
+  pub over_turned : (e : Refusal) → refused e ≡ accepted_over net listing → deletion_of net listing s net_room listing_room ≡ refused e
+  over_turned e h = deletion_over ∙ then_refused _ (sym h)
+
+  pub over_deleted : (M : WeightedNet) (G : Listing) → both_read M G ≡ accepted_over net listing → deleted M.net M.weights G.tree s net_room listing_room ≡ deletion_of net listing s net_room listing_room
+  over_deleted M G h = sym (deletion_over ∙ then_value _ (sym h))
+
 -- what the whole call leaves
-pub outputs_are : (net listing : List ℕ) (s : ℕ) (net_out listing_out : List ℕ) (r : DeletionAnswer) (net_left listing_left : List ℕ)
+pub outputs_are : (net listing : List ℕ) (s : ℕ) (net_out listing_out : List ℕ) (r : Result Deleted Refusal) (net_left listing_left : List ℕ)
     → Answers (deletion_of net listing s (length net_out) (length listing_out)) net_out listing_out r net_left listing_left
     → (r ≡ deletion_answer (deletion_of net listing s (length net_out) (length listing_out))) × (net_left ≡ net_output net listing s net_out listing_out) × (listing_left ≡ listing_output net listing s net_out listing_out)
 unfolding net_output listing_output

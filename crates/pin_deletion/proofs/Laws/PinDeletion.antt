@@ -3,6 +3,7 @@ use Prim.Native.Nat.{ℕ, ◌≤◌, ◌<◌}
 use mathlib.Core.Path.{◌≡◌, refl, sym, ap, subst, ◌∙◌}
 use mathlib.Core.Logic.{◌≢◌, ◌⊎◌, inl, inr, ◌↔◌}
 use mathlib.Core.List.{List}
+use Rattle.std.specs.Prelude.{Result, Ok, Err}
 use native.Mathlib.Omega.{arith}
 use lib.ListN.{length, take, drop}
 use lib.Seq.{take_at}
@@ -38,8 +39,7 @@ use Rattle.shorter_tree.specs.Kept.{Deletable}
 use Rattle.shorter_tree.specs.Deletion.{without, weights_without, pruned}
 use Rattle.pin_deletion.specs.Deletions.{Shorter, shorter, both_fit, deleted, deletion_of, net_bytes_of, listing_bytes_of, net_output, listing_output, deletion_figures}
 use Rattle.pin_deletion.specs.PinDeletion.{TextsOf, DeletionFor, DeletionRefuses, Outputs, PinDeletion}
-use Rattle.pin_deletion.specs.declared.delete_pin.DeletionAnswer.{DeletionAnswer}
-use Rattle.pin_deletion.specs.declared.delete_pin.DeletionAnswer.TheVariants.{Deleted, DeletionRefused}
+use Rattle.pin_deletion.specs.declared.delete_pin.Deleted.{Deleted}
 use Rattle.shorter_tree.proofs.Laws.Kept.{kept, shorter_legal}
 use Rattle.shorter_tree.proofs.Laws.ShorterInRange.{shorter_in_range, shorter_weighed, shorter_near, listed_within, shorter_listed}
 use Rattle.pin_deletion.proofs.Laws.Deletions.{both_fit_lem, fit_cases, sink_cases, net_turned, net_read, listing_turned, listing_accepted}
@@ -234,11 +234,11 @@ outputs net listing s net_out listing_out =
       same_lengths = (overwritten_length (net_bytes_of o) net_out f.0, overwritten_length (listing_bytes_of o) listing_out f.1);
     }
 
-figures_one : (a b : DeletionAnswer) → deletion_figures a ≡ deletion_figures b → a ≡ b
-figures_one (Deleted m n) (Deleted m' n') e = λ i. Deleted (e i).net_bytes (e i).listing_bytes
-figures_one (Deleted m n) (DeletionRefused f) e = absurd (omega (arith, numbered f, ap (λ r. r.number) e))
-figures_one (DeletionRefused f) (Deleted m n) e = absurd (omega (arith, numbered f, ap (λ r. r.number) e))
-figures_one (DeletionRefused f) (DeletionRefused g) e = ap DeletionRefused (told_one f g (λ i. record { number = (e i).number; text = (e i).text; line = (e i).line }))
+figures_one : (a b : Result Deleted Refusal) → deletion_figures a ≡ deletion_figures b → a ≡ b
+figures_one (Ok d) (Ok f) e = λ i. Ok (record { net_bytes = (e i).net_bytes; listing_bytes = (e i).listing_bytes })
+figures_one (Ok d) (Err f) e = absurd (omega (arith, numbered f, ap (λ r. r.number) e))
+figures_one (Err f) (Ok d) e = absurd (omega (arith, numbered f, ap (λ r. r.number) e))
+figures_one (Err f) (Err g) e = ap Err (told_one f g (λ i. record { number = (e i).number; text = (e i).text; line = (e i).line }))
 
 pub pin_deletion_lem : PinDeletion
 pin_deletion_lem = record {

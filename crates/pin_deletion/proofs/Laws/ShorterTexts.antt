@@ -3,9 +3,8 @@ use Prim.Native.Nat.{ℕ, ◌-◌}
 use mathlib.Core.Path.{◌≡◌, sym}
 use mathlib.Core.List.{List}
 use lib.IntN.{ℤ}
-use Rattle.quantities.specs.declared.length.Length.{Length}
-use Rattle.quantities.specs.declared.time.Time.{Time}
 use Rattle.tree.specs.declared.header.Header.{Header}
+use Rattle.tree.specs.declared.measures.Measures.{Measures}
 use Rattle.tree.specs.Net.{Net}
 use Rattle.tree.specs.Tree.{Tree}
 use Rattle.tree.specs.Measures.{worst_slack, wire_length}
@@ -25,10 +24,10 @@ module _ (h : Header) (n s : ℕ) (ps : List ℕ) (xs ys rs ws : List ℤ) (ps' 
   abbrev T : Tree
   T = tree_of n ps xs ys
 
-  pub shortened_texts : (slack : Time) (wire : Length) → slack.0 ≡ worst_slack (without N s) (pruned N T s) → wire.0 ≡ wire_length (without N s) (pruned N T s)
-      → texts_held h slack wire (n - 1) ps' xs' ys' rs' ws' ≡ shorter N (weights_of n ws) T s
+  pub shortened_texts : (m : Measures) → m.slack.0 ≡ worst_slack (without N s) (pruned N T s) → m.wire.0 ≡ wire_length (without N s) (pruned N T s)
+      → texts_held h m (n - 1) ps' xs' ys' rs' ws' ≡ shorter N (weights_of n ws) T s
   unfolding shorter
-  shortened_texts slack wire e f = λ i. record {
+  shortened_texts m e f = λ i. record {
     net = net_text (closed.net h i) (closed.weights i);
     listing = listing_text (sym (shorter_size h n s ps xs ys rs ws ps' xs' ys' rs' ws' closed) i) (record { slack = e i; wire = f i; tree = closed.tree h i });
   }

@@ -5,7 +5,7 @@ use mathlib.Core.Logic.{◌⊎◌, inl, inr}
 use Prim.Native.Nat.{◌+◌, ◌≤◌, min, max}
 use native.Mathlib.Omega.{arith}
 use lib.IntN.{ℤ}
-use lib.Signed.{◌≤ℤ◌, le_z}
+use lib.Signed.{◌≤ℤ◌, le_z, lt_z}
 use Rattle.quantities.specs.MinMax.{min_ℤ, max_ℤ}
 use Rattle.quantities.specs.Inner.Linear.{up, dn, whole, le_z_t, le_z_f}
 
@@ -30,3 +30,18 @@ total a b = go (le_z a b) refl
     go : (t : Bool) → le_z a b ≡ t → (a ≤ℤ b) ⊎ (b ≤ℤ a)
     go true e = inl (omega (arith, whole))
     go false e = inr (omega (arith, whole))
+
+-- the library's lesser and greater, which test the other order
+pub least_of : (a b : ℤ) → cond (lt_z b a) b a ≡ min_ℤ a b
+least_of a b = go (lt_z b a) refl
+  where
+    go : (t : Bool) → lt_z b a ≡ t → cond t b a ≡ min_ℤ a b
+    go true e = omega (arith, whole, min_is a b)
+    go false e = omega (arith, whole, min_is a b)
+
+pub greatest_of : (a b : ℤ) → cond (lt_z b a) a b ≡ max_ℤ a b
+greatest_of a b = go (lt_z b a) refl
+  where
+    go : (t : Bool) → lt_z b a ≡ t → cond t a b ≡ max_ℤ a b
+    go true e = omega (arith, whole, max_is a b)
+    go false e = omega (arith, whole, max_is a b)

@@ -2,6 +2,7 @@
 use mathlib.Core.Path.{◌≡◌, refl, sym, ap, subst, ◌∙◌}
 use mathlib.Core.Bool.{Bool, true, false, not}
 use mathlib.Core.List.{List}
+use Rattle.std.specs.Prelude.{Result, Ok, Err}
 use Prim.Native.Nat.{ℕ}
 use native.Mathlib.Omega.{arith}
 use lib.Dec.{T}
@@ -27,8 +28,6 @@ use Rattle.scoring.specs.Binary64.{Is1024ths, of1024ths, plus_zero}
 use Rattle.scoring.specs.Exact.{score1024ths, Exact}
 use Rattle.scoring.specs.Scores.{is_scored, scored, score_of, score_answer, score_figures}
 use Rattle.scoring.specs.RoutersScore.{ScoreInRange, ScoreRefuses, ScoreFor, RoutersScore}
-use Rattle.scoring.specs.declared.score.ScoreAnswer.{ScoreAnswer}
-use Rattle.scoring.specs.declared.score.ScoreAnswer.TheVariants.{Scored, ScoreRefused}
 use Rattle.scoring.proofs.Laws.Exact.{exactly}
 use Rattle.scoring.proofs.Laws.Scores.{scored_only, scored_if, scored_no, scored_yes, score_refused, score_judged}
 
@@ -115,11 +114,11 @@ no_bits : to_bits binary64 plus_zero ≡ 0
 unfolding to_bits
 no_bits = refl
 
-figures_one : (a b : ScoreAnswer) → score_figures a ≡ score_figures b → a ≡ b
-figures_one (Scored x) (Scored y) e = ap (λ f. Scored f.score) e
-figures_one (Scored x) (ScoreRefused f) e = absurd (omega (arith, numbered f, ap (λ r. r.number) e))
-figures_one (ScoreRefused f) (Scored y) e = absurd (omega (arith, numbered f, ap (λ r. r.number) e))
-figures_one (ScoreRefused f) (ScoreRefused g) e = ap ScoreRefused (told_one f g (λ i. record { number = (e i).number; text = (e i).text; line = (e i).line }))
+figures_one : (a b : Result Float Refusal) → score_figures a ≡ score_figures b → a ≡ b
+figures_one (Ok x) (Ok y) e = ap (λ f. Ok f.score) e
+figures_one (Ok x) (Err f) e = absurd (omega (arith, numbered f, ap (λ r. r.number) e))
+figures_one (Err f) (Ok y) e = absurd (omega (arith, numbered f, ap (λ r. r.number) e))
+figures_one (Err f) (Err g) e = ap Err (told_one f g (λ i. record { number = (e i).number; text = (e i).text; line = (e i).line }))
 
 -- ---- a score that is given is a number
 
@@ -129,10 +128,10 @@ exact_number nan z v = absurd v
 exact_number (inf s) z v = tt
 exact_number (fin s m e) z v = tt
 
-pub score_number : (net listing : List ℕ) (A B cap : ℤ) (x : Float) → Scored x ≡ score_answer (score_of net listing A B cap) → T (not (is_nan x))
+pub score_number : (net listing : List ℕ) (A B cap : ℤ) (x : Float) → Ok x ≡ score_answer (score_of net listing A B cap) → T (not (is_nan x))
 score_number net listing A B cap x e = go (score_of net listing A B cap) refl e
   where
-    go : (o : Outcome ℤ) → score_of net listing A B cap ≡ o → Scored x ≡ score_answer o → T (not (is_nan x))
+    go : (o : Outcome ℤ) → score_of net listing A B cap ≡ o → Ok x ≡ score_answer o → T (not (is_nan x))
     go (value z) h e = let same : x ≡ of1024ths z = cc in subst (λ y. T (not (is_nan y))) (sym same) (exact_number (of1024ths z) z (score_exact net listing A B cap z h))
     go (refused f) h e = absurd (let n : ◌≡◌ {A = ℕ} 0 1 = cc in omega arith)
 

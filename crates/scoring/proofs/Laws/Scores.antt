@@ -1,7 +1,8 @@
 -- Where a score is given and where 14 is, by the tests and by the ranges. Assumes nothing.
-use mathlib.Core.Path.{◌≡◌, refl, sym, ap, subst, ◌∙◌}
+use mathlib.Core.Path.{◌≡◌, refl, sym, subst}
 use mathlib.Core.List.{List}
-use mathlib.Core.Bool.{Bool, true, false, not, ◌&&◌}
+use mathlib.Core.Bool.{Bool, true, false, cond, ◌&&◌}
+use Rattle.std.proofs.Common.{is_ge, Less, Greater, Equal}
 use Prim.Native.Nat.{ℕ}
 use native.Mathlib.Omega.{arith}
 use lib.Dec.{T}
@@ -22,33 +23,11 @@ use Rattle.scoring.specs.Scores.{is_from_zero, is_scored, scored_at, scored, sco
 false_true : false ≡ true → ⊥
 false_true e = subst T (sym e) tt
 
-stopped : (a rest : Bool) → not a ≡ true → false ≡ (a && rest)
-stopped true rest e = absurd (false_true e)
-stopped false rest e = refl
-
-passed : (a rest : Bool) → not a ≡ false → rest ≡ (a && rest)
-passed true rest e = refl
-passed false rest e = absurd (false_true (sym e))
-
-pub not_true : (a : Bool) → not a ≡ true → a ≡ false
-not_true true e = sym e
-not_true false e = refl
-
-pub not_false : (a : Bool) → not a ≡ false → a ≡ true
-not_false true e = refl
-not_false false e = sym e
-
 both : (a b : Bool) → a && b ≡ true → (a ≡ true) × (b ≡ true)
 both true b e = (refl, e)
 both false b e = absurd (false_true e)
 
 -- ---- ranges
-
-pub from_zero_not : (k : ℕ) (z : ℤ) → lt_z z (pos 0) ≡ true → false ≡ is_from_zero k z
-from_zero_not k z e = ap (λ t. t && le_z z (pos k)) (sym (le_z_not {a = pos 0} {b = z} (omega (arith, whole))))
-
-pub from_zero_when : (k : ℕ) (z : ℤ) → lt_z z (pos 0) ≡ false → le_z z (pos k) ≡ is_from_zero k z
-from_zero_when k z e = ap (λ t. t && le_z z (pos k)) (sym (le_z_is {a = pos 0} {b = z} (omega (arith, whole))))
 
 from_zero_only : (k : ℕ) (z : ℤ) → is_from_zero k z ≡ true → FromZero k z
 from_zero_only k z e = let h = both (le_z (pos 0) z) (le_z z (pos k)) e in (le_of h.0, le_of h.1)
@@ -59,13 +38,14 @@ from_zero_only k z e = let h = both (le_z (pos 0) z) (le_z z (pos k)) e in (le_o
 from_zero_if : (k : ℕ) (z : ℤ) → FromZero k z → is_from_zero k z ≡ true
 from_zero_if k z h = λ i. le_z_is {a = pos 0} {b = z} h.0 i && le_z_is {a = z} {b = pos k} h.1 i
 
--- z is not below k
-not_below : (z k : ℤ) → not (lt_z z k) ≡ le_z k z
-not_below z k = by (lt_z z k) refl
+-- a test by the derived order of times, by their numbers
+pub late_says : (z k : ℤ) → is_ge (cond (lt_z z k) Less (cond (lt_z k z) Greater Equal)) ≡ le_z k z
+late_says z k = by (lt_z z k) refl (lt_z k z)
   where
-    by : (t : Bool) → lt_z z k ≡ t → not t ≡ le_z k z
-    by true e = sym (le_z_not {a = k} {b = z} (omega (arith, whole)))
-    by false e = sym (le_z_is {a = k} {b = z} (omega (arith, whole)))
+    by : (t : Bool) → lt_z z k ≡ t → (u : Bool) → is_ge (cond t Less (cond u Greater Equal)) ≡ le_z k z
+    by true e u = sym (le_z_not {a = k} {b = z} (omega (arith, whole)))
+    by false e true = sym (le_z_is {a = k} {b = z} (omega (arith, whole)))
+    by false e false = sym (le_z_is {a = k} {b = z} (omega (arith, whole)))
 
 -- ---- the score
 
@@ -88,27 +68,21 @@ module _ (A B cap m : ℤ) where
   scored_if h = λ i. from_zero_if parts A h.0 i && (from_zero_if parts B h.1 i && (from_zero_if cap_limit cap h.2 i && le_z_is {a = neg_ℤ (pos late_limit)} {b = m} h.3 i))
 
   -- by one test after the other
-  pub no_alpha : not (is_from_zero parts A) ≡ true → false ≡ is_scored A B cap m
+  pub no_alpha : is_from_zero parts A ≡ false → false ≡ is_scored A B cap m
   unfolding is_scored
-  no_alpha e = stopped (is_from_zero parts A) (is_from_zero parts B && (is_from_zero cap_limit cap && le_z (neg_ℤ (pos late_limit)) m)) e
+  no_alpha e = rw e refl
 
-  module _ (alpha : not (is_from_zero parts A) ≡ false) where
-    alpha_passed : is_from_zero parts B && (is_from_zero cap_limit cap && le_z (neg_ℤ (pos late_limit)) m) ≡ is_scored A B cap m
-    unfolding is_scored
-    alpha_passed = passed (is_from_zero parts A) (is_from_zero parts B && (is_from_zero cap_limit cap && le_z (neg_ℤ (pos late_limit)) m)) alpha
+  pub no_beta : is_from_zero parts A ≡ true → is_from_zero parts B ≡ false → false ≡ is_scored A B cap m
+  unfolding is_scored
+  no_beta e f = rw (e, f) refl
 
-    pub no_beta : not (is_from_zero parts B) ≡ true → false ≡ is_scored A B cap m
-    no_beta e = stopped (is_from_zero parts B) (is_from_zero cap_limit cap && le_z (neg_ℤ (pos late_limit)) m) e ∙ alpha_passed
+  pub no_cap : is_from_zero parts A ≡ true → is_from_zero parts B ≡ true → is_from_zero cap_limit cap ≡ false → false ≡ is_scored A B cap m
+  unfolding is_scored
+  no_cap e f g = rw (e, f, g) refl
 
-    module _ (beta : not (is_from_zero parts B) ≡ false) where
-      beta_passed : is_from_zero cap_limit cap && le_z (neg_ℤ (pos late_limit)) m ≡ is_scored A B cap m
-      beta_passed = passed (is_from_zero parts B) (is_from_zero cap_limit cap && le_z (neg_ℤ (pos late_limit)) m) beta ∙ alpha_passed
-
-      pub no_cap : not (is_from_zero cap_limit cap) ≡ true → false ≡ is_scored A B cap m
-      no_cap e = stopped (is_from_zero cap_limit cap) (le_z (neg_ℤ (pos late_limit)) m) e ∙ beta_passed
-
-      pub by_slack : not (is_from_zero cap_limit cap) ≡ false → not (lt_z m (neg_ℤ (pos late_limit))) ≡ is_scored A B cap m
-      by_slack e = not_below m (neg_ℤ (pos late_limit)) ∙ passed (is_from_zero cap_limit cap) (le_z (neg_ℤ (pos late_limit)) m) e ∙ beta_passed
+  pub by_slack : is_from_zero parts A ≡ true → is_from_zero parts B ≡ true → is_from_zero cap_limit cap ≡ true → le_z (neg_ℤ (pos late_limit)) m ≡ is_scored A B cap m
+  unfolding is_scored
+  by_slack e f g = rw (e, f, g) refl
 
   -- by the value of all four
   pub scored_no : (wire : ℕ) → is_scored A B cap m ≡ false → scored_at A B cap m wire ≡ refused NotScored

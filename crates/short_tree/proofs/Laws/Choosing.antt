@@ -1,5 +1,5 @@
 -- The first of some numbers by a measure. Assumes nothing.
-use Prim.Native.Nat.{ℕ, ◌+◌, ◌≤◌, ◌<◌}
+use Prim.Native.Nat.{ℕ, ◌+◌, ◌<◌}
 use mathlib.Core.Path.{◌≡◌, refl, sym, ◌∙◌, subst}
 use mathlib.Core.Bool.{Bool, true, false, cond}
 use mathlib.Core.Logic.{◌≢◌, ◌⊎◌, inl, inr}
@@ -31,16 +31,9 @@ pub leads_else : {a v b u : ℕ} (t : Bool) → t ≡ false → cond t (Leads a 
 leads_else true e L = let z : ◌≡◌ {A = ℕ} 0 1 = cc in absurd (omega arith)
 leads_else false e L = L
 
--- the lesser leads; of two that cost the same the lower one does
+-- the lesser leads
 pub leads_less : (a v b u : ℕ) → a < b → Leads a v b u
 leads_less a v b u h = record { less = omega arith; tied = λ e. absurd (omega arith) }
-
-pub leads_lower : (a v b u : ℕ) → a ≤ b → b ≤ a → cond (ltb v u) (Leads a v b u) (Leads b u a v)
-leads_lower a v b u h k = go (ltb v u) refl
-  where
-    go : (t : Bool) → ltb v u ≡ t → cond t (Leads a v b u) (Leads b u a v)
-    go true e = record { less = h; tied = λ q. omega (arith, ltb-true v u e) }
-    go false e = record { less = k; tied = λ q. omega (arith, ltb-false v u e) }
 
 module _ (f : ℕ → ℕ) where
   pub ahead_self : (u : ℕ) → Ahead f u u

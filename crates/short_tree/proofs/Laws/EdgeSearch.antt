@@ -14,9 +14,13 @@ use Rattle.tree.specs.Limits.{position_limit}
 use Rattle.tree.specs.Inner.Arrays.{point_at}
 use Rattle.tree.proofs.Laws.Lists.Sums.{equal?}
 use Rattle.tree.proofs.Laws.Measures.InReach.{point_reach}
+use Rattle.std.specs.Ordering.{ord_min}
+use Rattle.short_tree.specs.declared.edge.Edge.{Edge}
+use Rattle.short_tree.specs.contracts.edge.EdgeOrd.TheImpl.{cmp-value}
 use Rattle.short_tree.specs.Inner.Searching.{Leads, Bound}
 use Rattle.short_tree.specs.Inner.Arrays.{meeting_at, added_at, Reaches, Inside, Seen, Cheapest}
-use Rattle.short_tree.proofs.Laws.Choosing.{leads_trans}
+use Rattle.short_tree.proofs.Laws.Choosing.{leads_trans, leads_same}
+use Rattle.short_tree.proofs.Laws.Edges.{least_by}
 
 -- ---- points in range
 
@@ -93,6 +97,20 @@ module _ (kept parents : List ℕ) (xs ys : List ℤ) (s from : ℕ) where
 
         new : Cheapest (Seen kept from (v + 1)) parents xs ys s v (added_at parents xs ys s v)
         new = record { bound = record { member = inr (v1, omega arith, i); leads = λ u j. leads u j (equal? u v) }; cost_is = refl }
+
+    -- the better of the two is taken
+    pub scan_better : (best next found : Edge) → found ≡ ord_min cmp-value.it best next → best.lower ≡ lower → best.added.0 ≡ cost → 1 ≤ v → get_or kept v 0 ≡ 0 → next.lower ≡ v → next.added.0 ≡ added_at parents xs ys s v
+        → Cheapest (Seen kept from (v + 1)) parents xs ys s found.lower found.added.0
+    scan_better best next found e l c v1 i nl nc = subst After (sym e) (least_by After best next stay take)
+      where
+        After : Edge → Type 0
+        After m = Cheapest (Seen kept from (v + 1)) parents xs ys s m.lower m.added.0
+
+        stay : Leads best.added.0 best.lower next.added.0 next.lower → After best
+        stay L = subst (λ z. Cheapest (Seen kept from (v + 1)) parents xs ys s z best.added.0) (sym l) (subst (Cheapest (Seen kept from (v + 1)) parents xs ys s lower) (sym c) (scan_stay (leads_same cost lower (added_at parents xs ys s v) v c l nc nl L)))
+
+        take : Leads next.added.0 next.lower best.added.0 best.lower → After next
+        take L = scan_take v1 i (leads_same (added_at parents xs ys s v) v cost lower nc nl c l L) next.lower next.added.0 nl nc
 
   -- all are seen
   pub scan_end : (last v lower cost : ℕ) → v ≡ last + 1 → Inside last kept from → Cheapest (Seen kept from v) parents xs ys s lower cost → Cheapest (Inside last kept) parents xs ys s lower cost

@@ -199,9 +199,6 @@ module _ (N : Net) (n : ℕ) (p : Pins N n) (k : ℕ) (kN : suc k < n) (xs ys : 
       kept₁_other : (u : ℕ) → u ≢ s → get_or kept₁ u 0 ≡ get_or kept u 0
       kept₁_other u d = get_or-set_other kept s u 0 0 d
 
-      pub sink_in : Inside b (set kept s 0) s
-      sink_in = (sw.0, omega (arith, s_low), kept₁_same)
-
       not_s : (u : ℕ) → Inside (n + k) kept u → u ≢ s
       not_s u i e = sw.2 (ap (λ z. get_or kept z 0) (sym e) ∙ i.2)
 

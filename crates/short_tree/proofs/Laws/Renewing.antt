@@ -9,7 +9,7 @@ use lib.ListN.{length, get_or}
 use lib.IntN.{ℤ}
 use Rattle.tree.proofs.Laws.Lists.Sums.{equal?}
 use Rattle.short_tree.specs.Inner.Searching.{Leads, Bound}
-use Rattle.short_tree.specs.Inner.Arrays.{added_at, Inside, Others, Kept, AllKept, SameZeros, SameBut}
+use Rattle.short_tree.specs.Inner.Arrays.{added_at, Waits, Inside, Others, Kept, AllKept, SameZeros, SameBut}
 use Rattle.short_tree.proofs.Laws.Choosing.{leads_trans, leads_same}
 use Rattle.short_tree.proofs.Laws.EdgeSearch.{bound_among}
 use Rattle.short_tree.proofs.Laws.SinkSearch.{inside_map, inside_back}
@@ -68,7 +68,7 @@ module _ (n last s : ℕ) (parents : List ℕ) (xs ys : List ℤ) (kept₀ costs
         (bound_among (added_at parents xs ys t) (Others last s kept₀) (Others last s kept) (get_or kept₀ t 0) (get_or costs₀ t 0) (inside_map last kept₀ kept I.same _ B.member.0, B.member.1)
         (λ u q. (inside_back last kept₀ kept I.same u q.0, q.1)) B))
 
-    pub turn_more : (kept' costs' : List ℕ) → length kept' ≡ length kept → length costs' ≡ length costs → SameBut t kept kept' → SameBut t costs costs' → SameZeros kept kept'
+    turn_more : (kept' costs' : List ℕ) → length kept' ≡ length kept → length costs' ≡ length costs → SameBut t kept kept' → SameBut t costs costs' → SameZeros kept kept'
         → (get_or kept t 0 ≢ 0 → Kept (Inside last kept) parents xs ys kept' costs' t) → Turn n last parents xs ys kept₀ costs₀ (t + 1) kept' costs'
     turn_more kept' costs' kl cl k c z new = record {
       kept_long = kl ∙ I.kept_long;
@@ -89,6 +89,11 @@ module _ (n last s : ℕ) (parents : List ℕ) (xs ys : List ℤ) (kept₀ costs
         before u a l w (inr d) =
             subst (λ i. Bound (added_at parents xs ys u) (Inside last kept₀) i (get_or costs' u 0)) (sym (k u d))
             (subst (Bound (added_at parents xs ys u) (Inside last kept₀) (get_or kept u 0)) (sym (c u d)) (I.done u a (omega arith) w))
+
+    -- the offer is made to t, if it waits
+    pub turn_next : ((u : ℕ) → Waits n kept₀ u → Kept (Others last s kept₀) parents xs ys kept₀ costs₀ u) → 1 ≤ t → t ≤ n → (kept' costs' : List ℕ) → length kept' ≡ length kept → length costs' ≡ length costs → SameBut t kept kept' → SameBut t costs costs' → SameZeros kept kept'
+        → (get_or kept t 0 ≢ 0 → Kept (Others last s kept) parents xs ys kept costs t → Kept (Inside last kept) parents xs ys kept' costs' t) → Turn n last parents xs ys kept₀ costs₀ (t + 1) kept' costs'
+    turn_next all t1 tn kept' costs' kl cl k c z new = turn_more kept' costs' kl cl k c z (λ w. new w (turn_kept (all t (t1, tn, λ e. w (I.kept_todo t (le_refl t) ∙ e)))))
 
     pub turn_end : t ≡ n + 1 → AllKept n last parents xs ys kept costs
     turn_end e u w =

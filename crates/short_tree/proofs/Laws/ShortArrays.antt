@@ -2,10 +2,10 @@
 use Prim.Native.Nat.{ℕ, zero, suc, ◌*◌, ◌≤◌, ◌<◌}
 use mathlib.Core.Path.{◌≡◌, sym, ap, ◌∙◌, subst}
 use mathlib.Core.List.{List}
-use mathlib.Core.Option.{none}
 use native.Mathlib.Omega.{arith}
 use lib.ListN.{length, get_or}
 use lib.IntN.{ℤ}
+use Rattle.std.specs.Prelude.{None}
 use Rattle.quantities.specs.Ranges.{PointWithin}
 use Rattle.tree.specs.declared.header.Header.{Header}
 use Rattle.tree.specs.Tree.{Legal, place}
@@ -42,7 +42,7 @@ module _ (h : Header) (n : ℕ) (xs ys rs : List ℤ) (held : HoldsNet h n xs ys
         subst (λ P. Legal n P) (sym (ap (λ T. T.parents) tree))
         (subst (λ m. Legal m (short (net_of h n xs ys rs)).parents) (size_is h n xs ys rs) (theorem2 (net_of h n xs ys rs) held.in_range.sinks.0).legal.shape)
 
-    pub no_defects : (wrong_children n (parents_of n ps) ≡ none) × (unreached n (parents_of n ps) ≡ none)
+    pub no_defects : (wrong_children n (parents_of n ps) ≡ None) × (unreached n (parents_of n ps) ≡ None)
     no_defects = legal_only n (parents_of n ps) (record { some_sink = (some_few h n xs ys rs held).0; size = legal.size; inside = legal.inside; no_sink_lem = legal_no_sink n (parents_of n ps) legal }) legal
 
     pub short_holds : HoldsTree n ps xs' ys'

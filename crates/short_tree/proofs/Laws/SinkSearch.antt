@@ -5,13 +5,15 @@ use mathlib.Core.Bool.{Bool, true, false, cond}
 use mathlib.Core.Logic.{◌≢◌, ◌⊎◌, inl, inr}
 use mathlib.Core.List.{List}
 use native.Mathlib.Omega.{arith}
-use borrow.Author.Tests.{ltb-true, ltb-false, leb-true, leb-false, eqb-true, eqb-false}
-use lib.Dec.{ltb, leb, eqb}
+use borrow.Author.Tests.{ltb-true, ltb-false, leb-true, leb-false}
+use lib.Dec.{ltb}
 use lib.ListN.{get_or}
 use lib.IntN.{ℤ}
+use Rattle.std.specs.Prelude.{Option, None, Some}
+use Rattle.std.specs.Option.{unwrap_or}
 use Rattle.tree.proofs.Laws.Lists.Sums.{equal?}
 use Rattle.short_tree.specs.Inner.Searching.{Ahead, First, Bound}
-use Rattle.short_tree.specs.Inner.Arrays.{added_at, Waits, Inside, Cheapest, Kept, AllKept, SameZeros, SameBut, Looked, Chosen}
+use Rattle.short_tree.specs.Inner.Arrays.{added_at, Waits, Inside, Cheapest, Kept, AllKept, SameZeros, SameBut, Looked, behind, Chosen}
 use Rattle.short_tree.proofs.Laws.Choosing.{ahead_self, ahead_trans, first_map}
 use Rattle.short_tree.proofs.Laws.EdgeSearch.{bound_among}
 
@@ -94,23 +96,6 @@ inside_map last kept kept' same u i = (i.0, i.1, (same u).0 i.2)
 pub inside_back : (last : ℕ) (kept kept' : List ℕ) → SameZeros kept kept' → (u : ℕ) → Inside last kept' u → Inside last kept u
 inside_back last kept kept' same u i = (i.0, i.1, (same u).1 i.2)
 
--- what the test says whether a sink goes behind the best, a and b being what is kept for the best and for the sink
-pub is_behind_lem : (best a b : ℕ) → cond (eqb best 0) false (leb a b) ≡ true → (best ≢ 0) × (a ≤ b)
-is_behind_lem best a b e = go (eqb best 0) (leb a b) refl refl e
-  where
-    go : (p q : Bool) → eqb best 0 ≡ p → leb a b ≡ q → cond p false q ≡ true → (best ≢ 0) × (a ≤ b)
-    go true q x y e = let z : ◌≡◌ {A = ℕ} 0 1 = cc in absurd (omega arith)
-    go false true x y e = (eqb-false best 0 x, leb-true a b y)
-    go false false x y e = let z : ◌≡◌ {A = ℕ} 0 1 = cc in absurd (omega arith)
-
-pub not_behind : (best a b : ℕ) → cond (eqb best 0) false (leb a b) ≡ false → (best ≡ 0) ⊎ ((best ≢ 0) × (b < a))
-not_behind best a b e = go (eqb best 0) (leb a b) refl refl e
-  where
-    go : (p q : Bool) → eqb best 0 ≡ p → leb a b ≡ q → cond p false q ≡ false → (best ≡ 0) ⊎ ((best ≢ 0) × (b < a))
-    go true q x y e = inl (eqb-true best 0 x)
-    go false true x y e = let z : ◌≡◌ {A = ℕ} 0 1 = cc in absurd (omega arith)
-    go false false x y e = inr (eqb-false best 0 x, leb-false a b y)
-
 module _ (parents : List ℕ) (xs ys : List ℤ) where
   -- s adds no more than what is kept: so its cheapest edge is
   pub kept_cheapest : (last : ℕ) (kept costs : List ℕ) (s : ℕ) → Kept (Inside last kept) parents xs ys kept costs s → added_at parents xs ys s (get_or kept s 0) ≤ get_or costs s 0
@@ -121,50 +106,50 @@ module _ (parents : List ℕ) (xs ys : List ℤ) where
   pub stored_cheapest : (In : ℕ → Type 0) (kept costs : List ℕ) (s lower cost : ℕ) → get_or kept s 0 ≡ lower → get_or costs s 0 ≡ cost → Cheapest In parents xs ys s lower cost → Cheapest In parents xs ys s (get_or kept s 0) (get_or costs s 0)
   stored_cheapest In kept costs s lower cost k c C = subst (λ z. Cheapest In parents xs ys s z (get_or costs s 0)) (sym k) (subst (Cheapest In parents xs ys s lower) (sym c) C)
 
-  pub looked_start : (kept costs : List ℕ) → Looked parents xs ys kept costs 1 0
-  looked_start kept costs = record { none = λ e u a b. absurd (omega arith); some = λ d. absurd (d refl); exact = λ d. absurd (d refl) }
+  -- ---- the best so far: none, or one of the sinks before s
 
-  module _ (kept costs : List ℕ) (s best : ℕ) (s1 : 1 ≤ s) (F : Looked parents xs ys kept costs s best) where
+  pub looked_start : (kept costs : List ℕ) → Looked parents xs ys kept costs 1 None
+  looked_start kept costs = λ u a b. absurd (omega arith)
+
+  module _ (kept costs : List ℕ) (s : ℕ) (s1 : 1 ≤ s) where
+    below : ((u : ℕ) → 1 ≤ u → u < s → get_or kept u 0 ≡ 0) → get_or kept s 0 ≡ 0 → (u : ℕ) → 1 ≤ u → u < s + 1 → (u ≡ s) ⊎ (u ≢ s) → get_or kept u 0 ≡ 0
+    below F e u a b (inl q) = ap (λ i. get_or kept i 0) q ∙ e
+    below F e u a b (inr d) = F u a (omega arith)
+
     -- s is in
-    pub looked_skip : get_or kept s 0 ≡ 0 → Looked parents xs ys kept costs (s + 1) best
-    looked_skip e = record { none = λ z u a b. below z u a b (equal? u s); some = λ d. first_skip (λ u. get_or costs u 0) (λ u. get_or kept u 0 ≢ 0) s (λ h. h e) (F.some d); exact = F.exact }
-      where
-        below : best ≡ 0 → (u : ℕ) → 1 ≤ u → u < s + 1 → (u ≡ s) ⊎ (u ≢ s) → get_or kept u 0 ≡ 0
-        below z u a b (inl q) = ap (λ i. get_or kept i 0) q ∙ e
-        below z u a b (inr d) = F.none z u a (omega arith)
+    pub looked_skip : (best : Option ℕ) → get_or kept s 0 ≡ 0 → Looked parents xs ys kept costs s best → Looked parents xs ys kept costs (s + 1) best
+    looked_skip None e F = λ u a b. below F e u a b (equal? u s)
+    looked_skip (Some best) e F = record { first = first_skip (λ u. get_or costs u 0) (λ u. get_or kept u 0 ≢ 0) s (λ h. h e) F.first; exact = F.exact }
 
     -- s goes behind the best
-    pub looked_stay : best ≢ 0 → get_or costs best 0 ≤ get_or costs s 0 → Looked parents xs ys kept costs (s + 1) best
-    looked_stay d l = record { none = λ e. absurd (d e); some = λ q. first_stay (λ u. get_or costs u 0) (λ u. get_or kept u 0 ≢ 0) s (F.some d) l; exact = F.exact }
+    pub looked_stay : (best : Option ℕ) → behind costs s best ≡ true → Looked parents xs ys kept costs s best → Looked parents xs ys kept costs (s + 1) best
+    looked_stay None e F = absurd (cc)
+    looked_stay (Some best) e F = record { first = first_stay (λ u. get_or costs u 0) (λ u. get_or kept u 0 ≢ 0) s F.first (leb-true (get_or costs best 0) (get_or costs s 0) e); exact = F.exact }
 
     -- s goes before it, or is the first that waits
-    pub looked_take : get_or kept s 0 ≢ 0 → get_or costs s 0 ≡ added_at parents xs ys s (get_or kept s 0) → (best ≡ 0) ⊎ ((best ≢ 0) × (get_or costs s 0 < get_or costs best 0)) → Looked parents xs ys kept costs (s + 1) s
-    looked_take w e (inl z) = record { none = λ q. absurd (omega arith); some = λ d. first_only (λ u. get_or costs u 0) (λ u. get_or kept u 0 ≢ 0) s s1 w (λ u a b h. h (F.none z u a b)); exact = λ d. e }
-    looked_take w e (inr q) = record { none = λ q. absurd (omega arith); some = λ d. first_less (λ u. get_or costs u 0) (λ u. get_or kept u 0 ≢ 0) s s1 w (F.some q.0) q.1; exact = λ d. e }
+    pub looked_take : (best : Option ℕ) → behind costs s best ≡ false → get_or kept s 0 ≢ 0 → get_or costs s 0 ≡ added_at parents xs ys s (get_or kept s 0) → Looked parents xs ys kept costs s best → Looked parents xs ys kept costs (s + 1) (Some s)
+    looked_take None e w x F = record { first = first_only (λ u. get_or costs u 0) (λ u. get_or kept u 0 ≢ 0) s s1 w (λ u a b h. h (F u a b)); exact = x }
+    looked_take (Some best) e w x F = record { first = first_less (λ u. get_or costs u 0) (λ u. get_or kept u 0 ≢ 0) s s1 w F.first (leb-false (get_or costs best 0) (get_or costs s 0) e); exact = x }
 
   -- the cheapest edge of s is found: nothing changes for the sinks before it
-  pub looked_other : (kept costs kept' costs' : List ℕ) (s best : ℕ) → SameBut s kept kept' → SameBut s costs costs' → Looked parents xs ys kept costs s best → Looked parents xs ys kept' costs' s best
-  looked_other kept costs kept' costs' s best k c F = record { none = none; some = some; exact = exact }
+  pub looked_other : (kept costs kept' costs' : List ℕ) (s : ℕ) (best : Option ℕ) → SameBut s kept kept' → SameBut s costs costs' → Looked parents xs ys kept costs s best → Looked parents xs ys kept' costs' s best
+  looked_other kept costs kept' costs' s None k c F = λ u a b. k u (omega arith) ∙ F u a b
+  looked_other kept costs kept' costs' s (Some best) k c F = record { first = first; exact = exact }
     where
-      none : best ≡ 0 → (u : ℕ) → 1 ≤ u → u < s → get_or kept' u 0 ≡ 0
-      none z u a b = k u (omega arith) ∙ F.none z u a b
+      first : First (λ u. get_or costs' u 0) (λ u. (1 ≤ u) × (u < s) × (get_or kept' u 0 ≢ 0)) best
+      first = first_map (λ u. get_or costs u 0) (λ u. (1 ≤ u) × (u < s) × (get_or kept u 0 ≢ 0)) (λ u. (1 ≤ u) × (u < s) × (get_or kept' u 0 ≢ 0)) (λ u. get_or costs' u 0)
+          (λ u q. (q.0, q.1, λ e. q.2 (sym (k u (omega arith)) ∙ e))) (λ u q. (q.0, q.1, λ e. q.2 (k u (omega arith) ∙ e))) (λ u q. c u (omega arith)) F.first
 
-      some : best ≢ 0 → First (λ u. get_or costs' u 0) (λ u. (1 ≤ u) × (u < s) × (get_or kept' u 0 ≢ 0)) best
-      some d = first_map (λ u. get_or costs u 0) (λ u. (1 ≤ u) × (u < s) × (get_or kept u 0 ≢ 0)) (λ u. (1 ≤ u) × (u < s) × (get_or kept' u 0 ≢ 0)) (λ u. get_or costs' u 0)
-          (λ u q. (q.0, q.1, λ e. q.2 (sym (k u (omega arith)) ∙ e))) (λ u q. (q.0, q.1, λ e. q.2 (k u (omega arith) ∙ e))) (λ u q. c u (omega arith)) (F.some d)
+      exact : get_or costs' best 0 ≡ added_at parents xs ys best (get_or kept' best 0)
+      exact = let l : best < s = F.first.member.1 in c best (omega arith) ∙ F.exact ∙ ap (added_at parents xs ys best) (sym (k best (omega arith)))
 
-      exact : best ≢ 0 → get_or costs' best 0 ≡ added_at parents xs ys best (get_or kept' best 0)
-      exact d = let l : best < s = (F.some d).member.1 in c best (omega arith) ∙ F.exact d ∙ ap (added_at parents xs ys best) (sym (k best (omega arith)))
-
-  pub looked_end : (n : ℕ) (kept costs : List ℕ) (s best w : ℕ) → s ≡ n + 1 → Waits n kept w → Looked parents xs ys kept costs s best → Chosen n parents xs ys kept costs best
-  looked_end n kept costs s best w e wait F = go (equal? best 0)
-    where
-      go : (best ≡ 0) ⊎ (best ≢ 0) → Chosen n parents xs ys kept costs best
-      go (inl z) = absurd (wait.2 (F.none z w wait.0 (omega (arith, wait.1))))
-      go (inr d) = record {
-        first = first_map (λ u. get_or costs u 0) (Before (λ u. get_or kept u 0 ≢ 0) s) (Waits n kept) (λ u. get_or costs u 0) (λ u q. (q.0, omega arith, q.2)) (λ u q. (q.0, omega arith, q.2)) (λ u q. refl) (F.some d);
-        exact = F.exact d;
-      }
+  -- sink w waits, so there is a best
+  pub looked_end : (n : ℕ) (kept costs : List ℕ) (s w : ℕ) (best : Option ℕ) → s ≡ n + 1 → Waits n kept w → Looked parents xs ys kept costs s best → Chosen n parents xs ys kept costs (unwrap_or best 0)
+  looked_end n kept costs s w None e wait F = absurd (wait.2 (F w wait.0 (omega (arith, wait.1))))
+  looked_end n kept costs s w (Some best) e wait F = record {
+    first = first_map (λ u. get_or costs u 0) (Before (λ u. get_or kept u 0 ≢ 0) s) (Waits n kept) (λ u. get_or costs u 0) (λ u q. (q.0, omega arith, q.2)) (λ u q. (q.0, omega arith, q.2)) (λ u q. refl) F.first;
+    exact = F.exact;
+  }
 
   -- what is kept, after the cheapest edge of s was found
   module _ (n last : ℕ) (kept costs kept' costs' : List ℕ) (s : ℕ) (k : SameBut s kept kept') (c : SameBut s costs costs') (C : Cheapest (Inside last kept) parents xs ys s (get_or kept' s 0) (get_or costs' s 0)) where

@@ -14,12 +14,10 @@ use Rattle.tree.specs.Net.{Net, size}
 use Rattle.tree.specs.Tree.{parent_of, parent, place}
 use Rattle.tree.specs.Planning.{put}
 use Rattle.tree.specs.Limits.{position_limit}
-use Rattle.tree.specs.Inner.Arrays.{point_at, Points}
 use Rattle.tree.proofs.Laws.Arrays.NetAndTree.{parents_at}
 use Rattle.tree.proofs.Laws.Trees.LegalTrees.{hangs}
 use Rattle.short_tree.specs.ShortTree.{meeting, added, edge_for, next_sink, after}
-use Rattle.short_tree.specs.Inner.Arrays.{meeting_at, added_at, Reaches, Pins, HoldsPins, Tracks}
-use Rattle.short_tree.proofs.Laws.Waiting.{place_terminal}
+use Rattle.short_tree.specs.Inner.Arrays.{meeting_at, added_at, Reaches, Pins, Tracks}
 use Rattle.short_tree.proofs.Laws.Theorem2.{in_box}
 
 -- ---- parents are among the vertices made
@@ -91,16 +89,3 @@ module _ (N : Net) (n : ℕ) (p : Pins N n) where
 
     pub added_is : (s v : ℕ) → s ≤ n + k → 1 ≤ v → v ≤ n + k → added_at parents xs ys s v ≡ added N (after N k).tree s v
     added_is s v sl v1 vl = ap₂ distance (meeting_is s v sl v1 vl) (t.points_are s sl)
-
--- ---- before the first
-
-module _ (N : Net) (n : ℕ) (xs ys : List ℤ) (h : HoldsPins N n xs ys) (xl : 2 * n ≤ length xs) (yl : 2 * n ≤ length ys) where
-  pub pins_points : Points (suc n) xs ys
-  pins_points = record { xs_long = omega (arith, h.pins.some); ys_long = omega (arith, h.pins.some); near = λ v l. subst (PointWithin position_limit) (sym (h.stand v (omega arith))) (h.pins.near v (omega arith)) }
-
-  pub pins_reach : (parents : List ℕ) → 2 * n ≤ length parents → ((v : ℕ) → v < 2 * n → get_or parents v 0 ≡ 0) → Reaches n parents xs ys
-  pins_reach parents pl zeros = record { points = pins_points; long = omega (arith, h.pins.some); inside = λ v a b. omega (arith, zeros v (omega (arith, h.pins.some))) }
-
-  -- the root and the sinks stay
-  pub pins_stay : (k : ℕ) (xs' ys' : List ℤ) (parents : List ℕ) → Tracks N n k xs' ys' parents → (v : ℕ) → v ≤ n → point_at xs' ys' v ≡ point_at xs ys v
-  pins_stay k xs' ys' parents t v l = t.points_are v (omega arith) ∙ place_terminal N (after N k).tree v (omega (arith, h.pins.size_is)) ∙ sym (h.stand v l)

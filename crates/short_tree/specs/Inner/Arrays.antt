@@ -1,6 +1,6 @@
 -- What the arrays of the short tree's program hold: where the vertices stand, their parents, and for each sink that waits an edge and a cost below which it
 -- has none. Definitions alone.
-use Rattle.std.specs.Prelude.{ℕ, suc, ◌+◌, ◌*◌, ◌≤◌, ◌<◌, ◌≡◌, ◌≢◌, ◌⊎◌, List, length, get_or, ℤ}
+use Rattle.std.specs.Prelude.{ℕ, suc, ◌+◌, ◌*◌, ◌≤◌, ◌<◌, ◌≡◌, ◌≢◌, ◌⊎◌, List, length, get_or, leb, ℤ, Bool, false, Option, None, Some, MatchOption}
 use Rattle.quantities.specs.declared.point.Point.{Point}
 use Rattle.quantities.specs.Distance.{distance}
 use Rattle.quantities.specs.Median.{median_point}
@@ -62,11 +62,19 @@ SameBut s l l' = (u : ℕ) → u ≢ s → get_or l' u 0 ≡ get_or l u 0
 
 -- ---- the search for the sink that goes in next
 
--- of the sinks before s that wait, `best` is the first by what is kept, 0 where none waits; and it adds there just what is kept
-pub record Looked (parents : List ℕ) (xs ys : List ℤ) (kept costs : List ℕ) (s best : ℕ) : Type 0 where
-  pub none : best ≡ 0 → (u : ℕ) → 1 ≤ u → u < s → get_or kept u 0 ≡ 0
-  pub some : best ≢ 0 → First (λ u. get_or costs u 0) (λ u. (1 ≤ u) × (u < s) × (get_or kept u 0 ≢ 0)) best
-  pub exact : best ≢ 0 → get_or costs best 0 ≡ added_at parents xs ys best (get_or kept best 0)
+-- sink `best` is the first by what is kept of the sinks before s that wait; and it adds there just what is kept
+pub record Best (parents : List ℕ) (xs ys : List ℤ) (kept costs : List ℕ) (s best : ℕ) : Type 0 where
+  pub first : First (λ u. get_or costs u 0) (λ u. (1 ≤ u) × (u < s) × (get_or kept u 0 ≢ 0)) best
+  pub exact : get_or costs best 0 ≡ added_at parents xs ys best (get_or kept best 0)
+
+-- the best of the sinks before s; none where none of them waits
+abbrev pub Looked : List ℕ → List ℤ → List ℤ → List ℕ → List ℕ → ℕ → Option ℕ → Type 0
+Looked parents xs ys kept costs s best = MatchOption best ((u : ℕ) → 1 ≤ u → u < s → get_or kept u 0 ≡ 0) (Best parents xs ys kept costs s)
+
+-- sink s goes behind the best, by what is kept
+abbrev pub behind : List ℕ → ℕ → Option ℕ → Bool
+behind costs s None = false
+behind costs s (Some best) = leb (get_or costs best 0) (get_or costs s 0)
 
 -- sink s goes in next, at the edge that is kept for it
 pub record Chosen (n : ℕ) (parents : List ℕ) (xs ys : List ℤ) (kept costs : List ℕ) (s : ℕ) : Type 0 where

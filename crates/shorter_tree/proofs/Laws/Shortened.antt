@@ -2,7 +2,7 @@
 use Prim.Native.Nat.{ℕ, zero, suc, ◌-◌, ◌*◌, ◌≤◌, ◌<◌}
 use mathlib.Core.Path.{◌≡◌, sym, ap, ◌∙◌, subst}
 use mathlib.Core.List.{List}
-use mathlib.Core.Option.{none}
+use Rattle.std.specs.Prelude.{None}
 use native.Mathlib.Omega.{arith}
 use lib.ListN.{length, get_or}
 use lib.IntN.{ℤ}
@@ -57,7 +57,7 @@ module _ (h : Header) (n s : ℕ) (ps : List ℕ) (xs ys rs ws : List ℤ) (held
         subst (λ m. Legal m (parents_of (n - 1) ps')) size_m (subst (Legal (size (without N s))) (sym (ap (λ t. t.parents) (closed.tree h))) (shorter_legal N T s held_legal size₂ s1 sink_in).shape)
 
     -- every vertex has its children and is reached
-    pub shortened_whole : (wrong_children (n - 1) (parents_of (n - 1) ps') ≡ none) × (unreached (n - 1) (parents_of (n - 1) ps') ≡ none)
+    pub shortened_whole : (wrong_children (n - 1) (parents_of (n - 1) ps') ≡ None) × (unreached (n - 1) (parents_of (n - 1) ps') ≡ None)
     shortened_whole =
         let L = shortened_legal in
         legal_only (n - 1) (parents_of (n - 1) ps') (record { some_sink = omega arith; size = L.size; inside = L.inside; no_sink_lem = legal_no_sink (n - 1) (parents_of (n - 1) ps') L }) L

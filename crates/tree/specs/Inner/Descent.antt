@@ -1,6 +1,5 @@
 -- What the arrays hold while a queue goes down a tree from the root, for the contracts of its functions. Definitions alone.
-use Rattle.std.specs.Prelude.{ℕ, ◌*◌, ◌-◌, ◌≤◌, ◌<◌, ◌≡◌, ◌≢◌, ◌⊎◌, List, [], ◌∷◌, get_or}
-use Rattle.std.proofs.Math.Option.{none}
+use Rattle.std.specs.Prelude.{ℕ, ◌*◌, ◌-◌, ◌≤◌, ◌<◌, ◌≡◌, ◌≢◌, ◌⊎◌, List, [], ◌∷◌, get_or, None}
 use Rattle.tree.specs.Lists.{range}
 use Rattle.tree.specs.Settling.{children_in}
 use Rattle.tree.specs.Defects.{wrong_children}
@@ -19,7 +18,7 @@ Stand first second b (x ∷ (y ∷ l)) = (get_or first b 0 ≡ x) × (get_or sec
 -- a tree with the right numbers of children, reached from the root or not, and the children of each vertex
 pub record Linked (n : ℕ) (parents first second : List ℕ) : Type 0 where
   pub parents_in_lem : Parents n parents
-  pub counts : wrong_children n (parents_of n parents) ≡ none
+  pub counts : wrong_children n (parents_of n parents) ≡ None
   pub children_at : (b : ℕ) → b < 2 * n → Stand first second b (children_from n parents 1 b)
 
 -- v stands in the queue, which ends before `end`

@@ -2,9 +2,12 @@
 use Prim.Native.Nat.{ℕ, zero, suc, ◌*◌, ◌-◌, ◌≤◌, ◌<◌}
 use mathlib.Core.Path.{◌≡◌, sym, ap, ◌∙◌, subst}
 use mathlib.Core.Logic.{◌⊎◌, inl, inr}
-use mathlib.Core.List.{List}
+use mathlib.Core.List.{List, ◌++◌}
+use Rattle.std.proofs.Common.{reverse, rules}
+use lib.Seq.{get_or-take}
+use Rattle.std.proofs.lemmas.List.{places, get_or-reverse}
 use native.Mathlib.Omega.{arith}
-use lib.ListN.{length, get_or}
+use lib.ListN.{length, get_or, take, drop}
 use lib.IntN.{ℤ}
 use Rattle.quantities.specs.Ranges.{PointWithin}
 use Rattle.tree.specs.declared.header.Header.{Header}
@@ -18,6 +21,21 @@ use Rattle.tree.proofs.Laws.Measures.FiguresInRange.{settled_within}
 use Rattle.formats.proofs.Laws.Held.{kept_net}
 use Rattle.weighted_tree.specs.Joining.{joined_parents, weighted_tree}
 use Rattle.weighted_tree.proofs.Laws.Joins.{joined_legal, joined_rising}
+
+-- the vertices by number, turned round
+pub turned : (n : ℕ) (order turn : List ℕ) → 2 * n - 1 ≤ length order → turn ≡ reverse (take (2 * n - 1) order) → ((i : ℕ) → i < 2 * n - 1 → get_or order i 0 ≡ suc i)
+    → (i : ℕ) → i < 2 * n - 1 → get_or (turn ++ drop (2 * n - 1) order) i 0 ≡ 2 * n - 1 - i
+turned n order turn long e at i h =
+    let xs = take (2 * n - 1) order in
+    let m : length xs ≡ 2 * n - 1 = search (rules, places) in
+    let first : get_or (reverse xs ++ drop (2 * n - 1) order) i 0 ≡ get_or (reverse xs) i 0 = search (rules, places) in
+    ap (λ (t : List ℕ). get_or (t ++ drop (2 * n - 1) order) i 0) e ∙ first ∙ get_or-reverse xs i 0 (omega (arith, m))
+    ∙ get_or-take (2 * n - 1) order (length xs - 1 - i) 0 (omega (arith, m)) ∙ at (length xs - 1 - i) (omega (arith, m)) ∙ omega (arith, m)
+
+pub turned_long : (n : ℕ) (order turn : List ℕ) → 2 * n - 1 ≤ length order → turn ≡ reverse (take (2 * n - 1) order) → length (turn ++ drop (2 * n - 1) order) ≡ length order
+turned_long n order turn long e =
+    let m : length (take (2 * n - 1) order) ≡ 2 * n - 1 = search (rules, places) in
+    rw e (search (rules, places))
 
 module _ (n : ℕ) (w : List ℕ) (some : 1 ≤ n) (few : n ≤ sink_limit) (ps : List ℕ) (long : 2 * n ≤ length ps) (joined : parents_of n ps ≡ joined_parents n w) where
   made_legal : Legal n (parents_of n ps)

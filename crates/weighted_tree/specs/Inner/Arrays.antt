@@ -13,9 +13,9 @@ Sinks n order = (q : ℕ) → q < n → (1 ≤ get_or order q 0) × (get_or orde
 -- ---- Two queues, of n sinks and of k branch points: O q is the sink at place q, W v the total weight of v. The first i sinks and the first j branch
 -- points have been taken.
 
--- the arrays have the queues of n sinks and k branch points, and some vertex waits
-abbrev pub SomeWait : ℕ → ℕ → List ℤ → List ℕ → ℕ → ℕ → Type 0
-SomeWait n k weights order i j = (k < n) × (n ≤ sink_limit) × (2 * n ≤ length weights) × (n ≤ length order) × (i ≤ n) × (j ≤ k) × (i + j < n + k) × Sinks n order
+-- the arrays have the queues of n sinks and k branch points
+abbrev pub HoldsQueues : ℕ → ℕ → List ℤ → List ℕ → ℕ → ℕ → Type 0
+HoldsQueues n k weights order i j = (k < n) × (n ≤ sink_limit) × (2 * n ≤ length weights) × (n ≤ length order) × (i ≤ n) × (j ≤ k) × Sinks n order
 
 -- u waits
 abbrev pub Waits : ℕ → ℕ → (ℕ → ℕ) → ℕ → ℕ → ℕ → Type 0

@@ -1,41 +1,29 @@
 -- The lines of a net in range: their numbers are short enough to be written, and stay the same in 64 bits. Assumes nothing.
 use Prim.Native.Nat.{ℕ, ◌+◌, ◌≤◌}
-use mathlib.Core.Path.{◌≡◌, sym, ap, ap₂, subst, ◌∙◌}
+use mathlib.Core.Path.{◌≡◌, ap, ap₂, ◌∙◌}
 use mathlib.Core.List.{List, [], ◌∷◌, ◌++◌}
 use native.Mathlib.Omega.{arith}
 use lib.ListN.{length, get_or, length-append}
 use lib.IntN.{ℤ, pos}
+use Rattle.std.specs.List.{All}
 use mir.Syntax.{w64}
 use mir.Val.{to_z}
 use Rattle.quantities.specs.declared.point.Point.{Point}
 use Rattle.quantities.specs.Inner.Linear.{up, whole, one_part, neg_up, neg_dn, rd}
-use Rattle.quantities.specs.Ranges.{Within}
+use Rattle.quantities.specs.Ranges.{Within, PointWithin}
 use Rattle.tree.specs.declared.header.Header.{Header}
+use Rattle.tree.specs.Inner.Arrays.{point_at}
 use Rattle.tree.specs.Limits.{position_limit, branch_limit, need_limit, required_limit, weight_limit}
 use Rattle.tree.proofs.Laws.Measures.MeasuredArrays.{pos_up}
 use Rattle.formats.specs.Line.{line_text}
 use Rattle.formats.specs.NetText.{root_key, branch_key, wire_key, need_key, sinks_key, sink_key}
-use Rattle.formats.specs.Inner.Writing.{Puts, Writable}
+use Rattle.formats.specs.Inner.Writing.{Writable}
 use Rattle.formats.proofs.Laws.Numbers.Signs.{plain_back}
-use Rattle.formats.proofs.Laws.Writing.{fits_next, puts_both}
-use Rattle.formats.proofs.Laws.Listings.ListingWriting.{within_writable, within_back, natural_writable}
-use Rattle.formats.proofs.Laws.Listings.ListingLengths.{line1_short, line2_short}
-use Rattle.writing.specs.Inner.NetWriting.{root_line, branch_line, wire_line, need_line, count_line, net_head_text, sink_line, HeadInRange, SinkInRange}
-
--- ---- a line after what was put, where its text is known by an equation
-
-module _ (l : List ℕ) (at : ℕ) (s t : List ℕ) (fits : at + length (s ++ t) ≤ length l) (mid : ℕ) (k : List ℕ) (first : Puts l at s mid k) (line : List ℕ) (e : line ≡ t) where
-  pub next_fits : mid + length line ≤ length k
-  next_fits = subst (λ (r : List ℕ). mid + length r ≤ length k) (sym e) (fits_next l at s t fits mid k first)
-
-  pub next_put : (end : ℕ) (j : List ℕ) → Puts k mid line end j → Puts l at (s ++ t) end j
-  next_put end j next = puts_both l at s t fits mid k first end j (subst (λ (r : List ℕ). Puts k mid r end j) e next)
+use Rattle.formats.proofs.Laws.Listings.ListingWriting.{within_back, natural_writable}
+use Rattle.writing.specs.Inner.NetWriting.{root_line, branch_line, wire_line, need_line, count_line, net_head_text, sink_line, HeadInRange}
+use Rattle.writing.proofs.Laws.Lines.{all_one, all_two, all_four, back_writable}
 
 -- ---- numbers in range
-
--- a number from -k to k that is read back from its bits
-back_writable : (k : ℕ) (z : ℤ) → Writable (pos k) → Within k z → Writable (rd z)
-back_writable k z h w = rw (within_back k z h w) (within_writable k z h w)
 
 -- a number from 1 to k
 pub positive_within : (k : ℕ) (z : ℤ) → 1 ≤ up z → up z ≤ k → Within k z
@@ -53,22 +41,22 @@ head_parts h root n =
     omega (arith, length-append four (count_line n), length-append three (need_line h), length-append two (wire_line h), length-append (root_line root) (branch_line h))
 
 module _ (h : Header) (root : Point) (n : ℕ) (R : HeadInRange h root n) where
-  pub root_writable : Writable (rd root.x) × Writable (rd root.y)
-  root_writable = (back_writable position_limit root.x (omega arith) R.root_in.0, back_writable position_limit root.y (omega arith) R.root_in.1)
+  pub root_writable : All Writable (rd root.x ∷ (rd root.y ∷ []))
+  root_writable = all_two (rd root.x) (rd root.y) (back_writable position_limit root.x (omega arith) R.root_in.0) (back_writable position_limit root.y (omega arith) R.root_in.1)
 
   pub root_line_lem : line_text root_key (rd root.x ∷ (rd root.y ∷ [])) ≡ root_line root
   root_line_lem = ap₂ (λ (x y : ℤ). line_text root_key (x ∷ (y ∷ []))) (within_back position_limit _ (omega arith) R.root_in.0) (within_back position_limit _ (omega arith) R.root_in.1)
 
   module _ (z : ℤ) (e : z ≡ h.branch.0) where
-    pub branch_writable : Writable (rd z)
-    branch_writable = rw e (back_writable branch_limit h.branch.0 (omega arith) R.branch)
+    pub branch_writable : All Writable (rd z ∷ [])
+    branch_writable = all_one (rd z) (rw e (back_writable branch_limit h.branch.0 (omega arith) R.branch))
 
     pub branch_line_lem : line_text branch_key (rd z ∷ []) ≡ branch_line h
     branch_line_lem = ap (λ (x : ℤ). line_text branch_key (x ∷ [])) (ap rd e ∙ within_back branch_limit _ (omega arith) R.branch)
 
   module _ (a b : ℕ) (e : a ≡ h.wire.horizontal.0) (f : b ≡ h.wire.vertical.0) where
-    pub wire_writable : Writable (to_z w64 a) × Writable (to_z w64 b)
-    wire_writable = (natural_writable a (omega (arith, R.wire.0.1)), natural_writable b (omega (arith, R.wire.1.1)))
+    pub wire_writable : All Writable (to_z w64 a ∷ (to_z w64 b ∷ []))
+    wire_writable = all_two (to_z w64 a) (to_z w64 b) (natural_writable a (omega (arith, R.wire.0.1))) (natural_writable b (omega (arith, R.wire.1.1)))
 
     pub wire_line_lem : line_text wire_key (to_z w64 a ∷ (to_z w64 b ∷ [])) ≡ wire_line h
     wire_line_lem =
@@ -77,32 +65,24 @@ module _ (h : Header) (root : Point) (n : ℕ) (R : HeadInRange h root n) where
         ap₂ (λ (x y : ℤ). line_text wire_key (x ∷ (y ∷ []))) p q
 
   module _ (z : ℤ) (e : z ≡ h.need.0) where
-    pub need_writable : Writable (rd z)
-    need_writable = rw e (back_writable need_limit h.need.0 (omega arith) R.need)
+    pub need_writable : All Writable (rd z ∷ [])
+    need_writable = all_one (rd z) (rw e (back_writable need_limit h.need.0 (omega arith) R.need))
 
     pub need_line_lem : line_text need_key (rd z ∷ []) ≡ need_line h
     need_line_lem = ap (λ (x : ℤ). line_text need_key (x ∷ [])) (ap rd e ∙ within_back need_limit _ (omega arith) R.need)
 
-  pub count_writable : Writable (to_z w64 n)
-  count_writable = natural_writable n (omega (arith, R.few))
+  pub count_writable : All Writable (to_z w64 n ∷ [])
+  count_writable = all_one (to_z w64 n) (natural_writable n (omega (arith, R.few)))
 
   pub count_line_lem : line_text sinks_key (to_z w64 n ∷ []) ≡ count_line n
   count_line_lem = ap (λ (x : ℤ). line_text sinks_key (x ∷ [])) (plain_back n (omega (arith, R.few)))
 
-  -- each line is its key, and 18 bytes at most for a number
-  pub head_short : length (net_head_text h root n) ≤ 154
-  head_short =
-      omega (
-        arith,
-        head_parts h root n,
-        line2_short root_key root.x root.y (within_writable position_limit _ (omega arith) R.root_in.0) (within_writable position_limit _ (omega arith) R.root_in.1),
-        line1_short branch_key h.branch.0 (within_writable branch_limit _ (omega arith) R.branch),
-        line2_short wire_key (pos h.wire.horizontal.0) (pos h.wire.vertical.0) (omega (arith, R.wire.0.1)) (omega (arith, R.wire.1.1)),
-        line1_short need_key h.need.0 (within_writable need_limit _ (omega arith) R.need),
-        line1_short sinks_key (pos n) (omega (arith, R.few)),
-      )
-
 -- ---- the line of a sink
+
+pub record SinkInRange (xs ys rs ws : List ℤ) (k : ℕ) : Type 0 where
+  pub point : PointWithin position_limit (point_at xs ys k)
+  pub arrival : Within required_limit (get_or rs k (pos 0))
+  pub weight : (1 ≤ up (get_or ws k (pos 0))) × (up (get_or ws k (pos 0)) ≤ weight_limit)
 
 module _ (xs ys rs ws : List ℤ) (k : ℕ) (R : SinkInRange xs ys rs ws k) where
   abbrev x : ℤ
@@ -120,13 +100,13 @@ module _ (xs ys rs ws : List ℤ) (k : ℕ) (R : SinkInRange xs ys rs ws k) wher
   weighs : Within weight_limit w
   weighs = positive_within weight_limit w R.weight.0 R.weight.1
 
-  pub sink_writable : Writable (rd x) × Writable (rd y) × Writable (rd a) × Writable (rd w)
-  sink_writable = (
-    back_writable position_limit x (omega arith) R.point.0,
-    back_writable position_limit y (omega arith) R.point.1,
-    back_writable required_limit a (omega arith) R.arrival,
-    back_writable weight_limit w (omega arith) weighs,
-  )
+  pub sink_writable : All Writable (rd x ∷ (rd y ∷ (rd a ∷ (rd w ∷ []))))
+  sink_writable =
+      all_four (rd x) (rd y) (rd a) (rd w)
+      (back_writable position_limit x (omega arith) R.point.0)
+      (back_writable position_limit y (omega arith) R.point.1)
+      (back_writable required_limit a (omega arith) R.arrival)
+      (back_writable weight_limit w (omega arith) weighs)
 
   pub sink_line_lem : line_text sink_key (rd x ∷ (rd y ∷ (rd a ∷ (rd w ∷ [])))) ≡ sink_line xs ys rs ws k
   sink_line_lem =

@@ -23,8 +23,10 @@ use Rattle.formats.specs.NetText.{branch_key, sinks_text, weighted, net_lines}
 use Rattle.formats.specs.ListingText.{lines_text}
 use Rattle.formats.proofs.Laws.Listings.ListingWriting.{within_back}
 use Rattle.formats.proofs.Laws.TextLengths.{net_short}
-use Rattle.writing.specs.Inner.NetWriting.{net_held_text, root_line, branch_line, wire_line, need_line, count_line, net_head_text, sink_line, HeadInRange, SinkInRange, SinksInRange}
-use Rattle.writing.proofs.Laws.NetLines.{positive_within}
+use Rattle.writing.specs.Inner.NetWriting.{net_held_text, root_line, branch_line, wire_line, need_line, count_line, net_head_text, sink_line, HeadInRange}
+use Rattle.writing.specs.declared.net_view.NetView.{NetView}
+use Rattle.writing.specs.Inner.NetSeen.{net_seen_text, sink_seen_line}
+use Rattle.writing.proofs.Laws.NetLines.{positive_within, SinkInRange}
 
 -- a line for each sink of some numbers
 sinks_are : (xs ys rs ws : List ℤ) (l : List ℕ) → sinks_text (weighted (map (λ s. record { point = point_at xs ys s; required = get_or rs s (pos 0) }) l) (map (λ s. up (get_or ws s (pos 0))) l)) ≡ lines_text (sink_line xs ys rs ws) l
@@ -80,19 +82,46 @@ module _ (h : Header) (n : ℕ) (xs ys rs : List ℤ) (net : HoldsNet h n xs ys 
     net_parts = ap length net_is ∙ length-append (head_part h n xs ys) (sinks_part n xs ys rs ws)
 
     module _ (weights : HoldsWeights n ws) where
-      sink_in_range : (k : ℕ) → 1 ≤ k → k ≤ n → SinkInRange xs ys rs ws k
+      pub sink_in_range : (k : ℕ) → 1 ≤ k → k ≤ n → SinkInRange xs ys rs ws k
       sink_in_range k p q = record {
-        place = (omega (arith, net.points.xs_long), omega (arith, net.points.ys_long), omega (arith, net.required_long), omega (arith, weights.long));
         point = net.points.near k (omega arith);
         arrival = subst (Within required_limit) (required_at h n xs ys rs k p q) (net.in_range.required k p (omega (arith, size_is h n xs ys rs)));
         weight = omega (arith, weight_at n ws k p q, weights.in_range.each k p q);
       }
-
-      pub sinks_in_range : SinksInRange n xs ys rs ws
-      sinks_in_range = record { few = (some_few h n xs ys rs net).1; each = sink_in_range }
 
       -- so each part is short
       pub parts_short : length (head_part h n xs ys) + length (sinks_part n xs ys rs ws) ≤ net_length_limit
       parts_short =
           let w : WeightsInRange (size (net_of h n xs ys rs)) (weights_of n ws) = subst (λ (k : ℕ). WeightsInRange k (weights_of n ws)) (sym (size_is h n xs ys rs)) weights.in_range in
           omega (arith, net_parts, net_short (net_of h n xs ys rs) (weights_of n ws) net.in_range w)
+
+-- ---- the net that a view lends
+
+module _ (v : NetView) where
+  abbrev pub seen_head : List ℕ
+  seen_head = head_part v.header v.n v.xs.now v.ys.now
+
+  abbrev pub seen_sinks : List ℕ
+  seen_sinks = lines_text (sink_seen_line v) (sink_numbers v.n)
+
+  -- the head is put with the root that is read
+  seen_root : root_read v.xs.now v.ys.now ≡ point_at v.xs.now v.ys.now 0
+  seen_root = root_back v.header v.n v.xs.now v.ys.now v.required.now v.holds_net
+
+  pub seen_head_is : net_head_text v.header (root_read v.xs.now v.ys.now) v.n ≡ seen_head
+  seen_head_is = ap (λ (p : Point). net_head_text v.header p v.n) seen_root
+
+  pub seen_head_in_range : HeadInRange v.header (root_read v.xs.now v.ys.now) v.n
+  seen_head_in_range = subst (λ (p : Point). HeadInRange v.header p v.n) (sym seen_root) (head_in_range v.header v.n v.xs.now v.ys.now v.required.now v.holds_net)
+
+  pub seen_sink : (k : ℕ) → 1 ≤ k → k ≤ v.n → SinkInRange v.xs.now v.ys.now v.required.now v.weights.now k
+  seen_sink = sink_in_range v.header v.n v.xs.now v.ys.now v.required.now v.holds_net v.weights.now v.holds_weights
+
+  pub seen_parts : seen_head ++ seen_sinks ≡ net_seen_text v
+  seen_parts = sym (net_is v.header v.n v.xs.now v.ys.now v.required.now v.holds_net v.weights.now)
+
+  pub seen_length : length (net_seen_text v) ≡ length seen_head + length seen_sinks
+  seen_length = net_parts v.header v.n v.xs.now v.ys.now v.required.now v.holds_net v.weights.now
+
+  pub seen_short : length seen_head + length seen_sinks ≤ net_length_limit
+  seen_short = parts_short v.header v.n v.xs.now v.ys.now v.required.now v.holds_net v.weights.now v.holds_weights

@@ -1,14 +1,13 @@
 -- The text of a net that arrays hold, in the parts that the writer puts. Definitions alone.
-use Rattle.std.specs.Prelude.{ℕ, ◌≤◌, List, [], ◌∷◌, ◌++◌, get_or, ℤ, pos}
+use Rattle.std.specs.Prelude.{ℕ, ◌≤◌, List, [], ◌∷◌, ◌++◌, ℤ, pos}
 use Rattle.quantities.specs.declared.point.Point.{Point}
-use Rattle.quantities.specs.Inner.Linear.{up}
 use Rattle.quantities.specs.Ranges.{Within, PointWithin}
 use Rattle.tree.specs.declared.header.Header.{Header}
-use Rattle.tree.specs.Inner.Arrays.{point_at, net_of, weights_of}
-use Rattle.tree.specs.Limits.{position_limit, branch_limit, need_limit, sink_limit, required_limit, weight_limit, FactorsInRange}
+use Rattle.tree.specs.Inner.Arrays.{net_of, weights_of}
+use Rattle.tree.specs.Limits.{position_limit, branch_limit, need_limit, sink_limit, FactorsInRange}
 use Rattle.formats.specs.Line.{line_text}
 use Rattle.formats.specs.NetText.{root_key, branch_key, wire_key, need_key, sinks_key, sink_text, net_text}
-use Rattle.formats.specs.Inner.Readers.{HasPlace, sink_held}
+use Rattle.formats.specs.Inner.Readers.{sink_held}
 
 -- the text of the net in the arrays, with its weights
 abbrev pub net_held_text : Header → ℕ → List ℤ → List ℤ → List ℤ → List ℤ → List ℕ
@@ -47,14 +46,3 @@ pub record HeadInRange (h : Header) (root : Point) (n : ℕ) : Type 0 where
 -- the line of sink k
 abbrev pub sink_line : List ℤ → List ℤ → List ℤ → List ℤ → ℕ → List ℕ
 sink_line xs ys required weights k = sink_text (sink_held xs ys required weights k)
-
--- sink k stands in the arrays, with numbers in range
-pub record SinkInRange (xs ys required weights : List ℤ) (k : ℕ) : Type 0 where
-  pub place : HasPlace k xs ys required weights
-  pub point : PointWithin position_limit (point_at xs ys k)
-  pub arrival : Within required_limit (get_or required k (pos 0))
-  pub weight : (1 ≤ up (get_or weights k (pos 0))) × (up (get_or weights k (pos 0)) ≤ weight_limit)
-
-pub record SinksInRange (n : ℕ) (xs ys required weights : List ℤ) : Type 0 where
-  pub few : n ≤ sink_limit
-  pub each : (k : ℕ) → 1 ≤ k → k ≤ n → SinkInRange xs ys required weights k

@@ -7,9 +7,6 @@ use std::collections::BTreeMap;
 /// words then, those for the root.
 pub type Wording = BTreeMap<(u64, bool), String>;
 
-/// The one refusal with two rows.
-const CHILDREN: u64 = 9;
-
 /// The Rust wrapper: `(NUMBER, LINE) => "WORDS"`.
 pub fn of_rust(source: &str) -> Wording {
     let words = words(source);
@@ -43,9 +40,9 @@ pub fn of_header(source: &str) -> Wording {
     found
 }
 
-/// The programs: `Refusal::NAME` with the words that follow it, and the words
-/// of `put_children_words`; `numbers` is the source with `Refusal::NAME` and
-/// the number that is told of it.
+/// The programs: `Refusal::NAME { .. } => "WORDS"`, once with `line: 0` for the
+/// refusal with two rows; `numbers` is the source with `Refusal::NAME` and the
+/// number that is told of it.
 pub fn of_rattle(source: &str, numbers: &str) -> Wording {
     let told: BTreeMap<String, u64> = variants(&words(numbers))
         .filter_map(|(name, rest)| {
@@ -54,16 +51,11 @@ pub fn of_rattle(source: &str, numbers: &str) -> Wording {
         })
         .collect();
     let words = words(source);
-    let children = words
-        .split(|w| w == "fn")
-        .find(|f| f[0] == "put_children_words");
-    let mut found: Wording = rows(CHILDREN, children.unwrap_or_default()).collect();
-    for (name, rest) in variants(&words) {
-        if let (Some(number), Some(text)) = (told.get(name), rest.iter().find_map(|w| quoted(w))) {
-            found.insert((*number, false), text);
-        }
-    }
-    found
+    let rows = variants(&words).filter_map(|(name, rest)| {
+        let root = rest.starts_with(&["{", "line", ":", "0"].map(String::from));
+        Some(((*told.get(name)?, root), rest.iter().find_map(|w| quoted(w))?))
+    });
+    rows.collect()
 }
 
 /// The quoted words in the order of their rows: the first of two is the root's.

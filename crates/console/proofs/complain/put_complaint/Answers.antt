@@ -1,5 +1,5 @@
 -- Name, line and words are put, each where what stands before it ends.
-use Rattle.std.proofs.Common.{◌+◌, ◌≤◌, ◌++◌, ℕ, List, [], ◌∷◌, length, arith, subst}
+use Rattle.std.proofs.Common.{◌+◌, ◌≤◌, ◌++◌, ℕ, List, [], ◌∷◌, length, arith, ap, subst}
 use Rattle.formats.specs.Bytes.{bytes, end_byte}
 use Rattle.formats.specs.Inner.Writing.{Puts}
 use Rattle.formats.specs.declared.refusal.Refusal.{Refusal}
@@ -8,7 +8,7 @@ use Rattle.formats.proofs.Laws.Writing.{fits_next, puts_both}
 use Rattle.console.specs.Words.{words, text_name, line_mark}
 use Rattle.console.specs.Printing.{complaint_room}
 use Rattle.console.specs.Inner.Rooms.{NamesFit}
-use Rattle.console.proofs.Laws.Rooms.{after_name, complaint_by, name_short, mark_short, complaint_short}
+use Rattle.console.proofs.Laws.Rooms.{after_name, complaint_by, name_short, mark_short, words_short, complaint_short}
 use Rattle.console.proofs.complain.put_complaint.Goals as goal
 
 names : (net listing out : List ℕ) → (length net + complaint_room ≤ length out) × (length listing + complaint_room ≤ length out) → NamesFit net listing 88 out
@@ -38,24 +38,26 @@ module _ (net listing out : List ℕ) (t : Told) (e : Refusal) (fits : 0 + lengt
 pub put_bytes-begun-requires : goal.put_bytes-begun-requires
 put_bytes-begun-requires c =
     let a = c.args in
-    let t = c.tell-told in
+    let t = c.told-told in
     omega (arith, c.put_name-named.ensures.0, c.put_name-named.auto.out, c.put_mark-marked.ensures.0, c.put_mark-marked.auto.out, name_short a.net.now a.listing.now t.result.text 88 a.out.now (names a.net.now a.listing.now a.out.now c.requires), mark_short t.result.line (omega (arith, t.type_inv)))
 
-pub put_words-worded-requires : goal.put_words-worded-requires
-put_words-worded-requires c =
+pub put_bytes-worded-requires : goal.put_bytes-worded-requires
+put_bytes-worded-requires c =
     let a = c.args in
-    let t = c.tell-told in
-    omega (arith, c.put_name-named.ensures.0, c.put_name-named.auto.out, c.put_mark-marked.ensures.0, c.put_mark-marked.auto.out, c.put_bytes-begun.ensures.0, c.put_bytes-begun.auto.out, name_short a.net.now a.listing.now t.result.text 88 a.out.now (names a.net.now a.listing.now a.out.now c.requires), mark_short t.result.line (omega (arith, t.type_inv)))
+    let t = c.told-told in
+    omega (arith, c.put_name-named.ensures.0, c.put_name-named.auto.out, c.put_mark-marked.ensures.0, c.put_mark-marked.auto.out, c.put_bytes-begun.ensures.0, c.put_bytes-begun.auto.out, name_short a.net.now a.listing.now t.result.text 88 a.out.now (names a.net.now a.listing.now a.out.now c.requires), mark_short t.result.line (omega (arith, t.type_inv)), words_short a.refusal, ap length c.words.ensures)
 
 pub put_bytes-requires : goal.put_bytes-requires
 put_bytes-requires c =
     let a = c.args in
-    let t = c.tell-told in
-    last_fits a.net.now a.listing.now a.out.now t.result a.refusal (complaint_short a.net.now a.listing.now a.out.now t.result a.refusal (omega (arith, t.type_inv)) (names a.net.now a.listing.now a.out.now c.requires)) _ _ c.put_name-named.ensures _ _ c.put_mark-marked.ensures _ _ c.put_bytes-begun.ensures _ _ c.put_words-worded.ensures
+    let t = c.told-told in
+    let worded = subst (λ (w : List ℕ). Puts c.put_bytes-begun.new.out c.put_bytes-begun.result w c.put_bytes-worded.result c.put_bytes-worded.new.out) c.words.ensures c.put_bytes-worded.ensures in
+    last_fits a.net.now a.listing.now a.out.now t.result a.refusal (complaint_short a.net.now a.listing.now a.out.now t.result a.refusal (omega (arith, t.type_inv)) (names a.net.now a.listing.now a.out.now c.requires)) _ _ c.put_name-named.ensures _ _ c.put_mark-marked.ensures _ _ c.put_bytes-begun.ensures _ _ worded
 
 pub returns : goal.returns
 returns c =
     let a = c.args in
-    let t = c.tell-told in
+    let t = c.told-told in
+    let worded = subst (λ (w : List ℕ). Puts c.put_bytes-begun.new.out c.put_bytes-begun.result w c.put_bytes-worded.result c.put_bytes-worded.new.out) c.words.ensures c.put_bytes-worded.ensures in
     subst (λ (told : Told). Puts a.out.now 0 (complaint_by a.net.now a.listing.now told a.refusal) c.put_bytes.result c.put_bytes.new.out) t.ensures
-    (all_put a.net.now a.listing.now a.out.now t.result a.refusal (complaint_short a.net.now a.listing.now a.out.now t.result a.refusal (omega (arith, t.type_inv)) (names a.net.now a.listing.now a.out.now c.requires)) _ _ c.put_name-named.ensures _ _ c.put_mark-marked.ensures _ _ c.put_bytes-begun.ensures _ _ c.put_words-worded.ensures _ _ c.put_bytes.ensures)
+    (all_put a.net.now a.listing.now a.out.now t.result a.refusal (complaint_short a.net.now a.listing.now a.out.now t.result a.refusal (omega (arith, t.type_inv)) (names a.net.now a.listing.now a.out.now c.requires)) _ _ c.put_name-named.ensures _ _ c.put_mark-marked.ensures _ _ c.put_bytes-begun.ensures _ _ worded _ _ c.put_bytes.ensures)

@@ -1,47 +1,43 @@
--- A key, compared byte by byte. Assumes nothing.
-use Prim.Native.Nat.{ℕ, suc, ◌+◌, ◌<◌, ◌≤◌}
-use mathlib.Core.Path.{◌≡◌, refl}
-use mathlib.Core.Bool.{Bool, true, false, false≢true}
+-- A key at the start of a text. Assumes nothing.
+use Prim.Native.Nat.{ℕ, suc, ◌+◌, ◌-◌, ◌≤◌}
+use mathlib.Core.Path.{◌≡◌, refl, sym, ◌∙◌}
+use mathlib.Core.Bool.{Bool, true, false, cond, ◌&&◌, false≢true}
 use mathlib.Core.List.{List, [], ◌∷◌}
-use lib.ListN.{length, get_or, drop, drop_of_length-le, length-drop}
-use lib.Seq.{drop-cons}
+use lib.ListN.{length, drop, take, length-drop}
 use lib.Dec.{eqb}
 use native.Mathlib.Omega.{arith}
-use native.Mathlib.Numerals.{add-one}
-use native.Mathlib.Nat.{add-zero}
-use borrow.Author.Tests.{eq-eqb, ne_eqb}
+use borrow.Author.Tests.{eq-eqb, ne_eqb, eqb-true, eqb-false}
+use Rattle.std.specs.Cmp.Lexicographic.{pointwise}
+use Rattle.std.specs.List.{starts_with}
+use Rattle.std.proofs.lemmas.List.{take_rest}
 use Rattle.formats.specs.Reading.Rows.{begins}
 
--- the key from i on stands at at + i exactly where the whole key stands at at
-pub record Same (key s : List ℕ) (at i : ℕ) : Type 0 where
-  pub within : at + i ≤ length s
-  pub so_far : begins (drop i key) (drop (at + i) s) ≡ begins key (drop at s)
+-- ---- the library's test of a slice is the definition's
 
-module _ (key s : List ℕ) (at : ℕ) where
-  pub same_start : at ≤ length s → Same key s at 0
-  same_start h = record { within = omega arith; so_far = rw add-zero }
+eqb_turned : (a b : ℕ) → eqb a b ≡ eqb b a
+eqb_turned a b = go (eqb b a) refl
+  where
+    go : (t : Bool) → eqb b a ≡ t → eqb a b ≡ t
+    go true e = eq-eqb a b (sym (eqb-true b a e))
+    go false e = ne_eqb a b (λ p. eqb-false b a e (sym p))
 
-  -- one byte of both
-  split : (i : ℕ) → i < length key → at + i < length s → Same key s at i → begins (get_or key i 0 ∷ drop (suc i) key) (get_or s (at + i) 0 ∷ drop (suc (at + i)) s) ≡ begins key (drop at s)
-  split i hk hs g = rw (drop-cons key i 0 hk, drop-cons s (at + i) 0 hs) at g.so_far
+starts_begins : (key s : List ℕ) → pointwise eqb key (take (length key) s) ≡ begins key s
+unfolding begins
+starts_begins [] s = refl
+starts_begins (k ∷ key) [] = refl
+starts_begins (k ∷ key) (b ∷ s) = rw (eqb_turned k b) (go (eqb b k) (starts_begins key s))
+  where
+    go : (t : Bool) → pointwise eqb key (take (length key) s) ≡ begins key s → (t && pointwise eqb key (take (length key) s)) ≡ cond t (begins key s) false
+    go true e = e
+    go false e = refl
 
-  pub same_more : (i : ℕ) → i < length key → at + i < length s → get_or s (at + i) 0 ≡ get_or key i 0 → Same key s at i → Same key s at (i + 1)
-  unfolding begins
-  same_more i hk hs e g =
-      let q : at + (i + 1) ≡ suc (at + i) = omega arith in
-      record { within = omega arith; so_far = rw (q, add-one) (rw (eq-eqb (get_or s (at + i) 0) (get_or key i 0) e) at (split i hk hs g)) }
+-- the test of what is left of a text from `at` on
+pub starts_there : (key s : List ℕ) (at : ℕ) (t : Bool) → t ≡ starts_with eqb (take (length s - at) (drop at s)) key → begins key (drop at s) ≡ t
+starts_there key s at t e =
+    let q : take (length s - at) (drop at s) ≡ drop at s = take_rest s at in
+    sym (starts_begins key (drop at s)) ∙ sym (rw q at e)
 
-  pub same_end : (i : ℕ) → length key ≤ i → Same key s at i → true ≡ begins key (drop at s)
-  unfolding begins
-  same_end i h g = rw (drop_of_length-le key h) at g.so_far
-
-  pub same_short : (i : ℕ) → i < length key → length s ≤ at + i → Same key s at i → false ≡ begins key (drop at s)
-  unfolding begins
-  same_short i hk hs g = rw (drop-cons key i 0 hk, drop_of_length-le s hs) at g.so_far
-
-  pub same_not : (i : ℕ) → i < length key → at + i < length s → (get_or s (at + i) 0 ≡ get_or key i 0 → ⊥) → Same key s at i → false ≡ begins key (drop at s)
-  unfolding begins
-  same_not i hk hs e g = rw (ne_eqb (get_or s (at + i) 0) (get_or key i 0) e) at (split i hk hs g)
+-- ---- its length
 
 begins_length : (key s : List ℕ) → begins key s ≡ true → length key ≤ length s
 unfolding begins

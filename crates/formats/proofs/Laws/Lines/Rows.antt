@@ -1,24 +1,26 @@
 -- Numbers in a row and lines, from what reading their parts answered. Assumes nothing.
 use Prim.Native.Nat.{ℕ, zero, suc, ◌+◌, ◌*◌, ◌-◌, ◌<◌, ◌≤◌}
-use mathlib.Core.Path.{◌≡◌, refl, ap, ◌∙◌}
+use mathlib.Core.Path.{◌≡◌, refl, ap, sym, ◌∙◌}
+use mathlib.Core.Logic.{◌⊎◌, inl, inr}
 use mathlib.Core.Bool.{Bool, true, false, cond}
-use mathlib.Core.List.{List, [], ◌∷◌}
-use lib.ListN.{length, get_or, drop}
+use mathlib.Core.List.{List, [], ◌∷◌, ◌++◌, map, append_assoc, append-nil}
+use lib.ListN.{length, get_or, drop, take, set, length-set}
 use lib.Seq.{drop-drop}
 use lib.Dec.{ltb, eqb}
 use lib.IntN.{ℤ}
 use native.Mathlib.Omega.{arith}
+use native.Mathlib.Nat.{add-zero}
 use borrow.Author.Tests.{lt-ltb, eqb-false}
+use Rattle.std.specs.Prelude.{Option, Some, None}
+use Rattle.std.proofs.lemmas.List.{take_more_set, take_all}
 use Rattle.formats.specs.Reading.Numbers.{Field, spelt, misspelt, is_digit, lead, value, well, natural, signing, field, signed}
 use Rattle.formats.specs.Bytes.{end_byte, comma}
 use Rattle.formats.specs.Reading.Rows.{stop_by, number_then, Row, row, misspelled, prepend, after, last, first, row_in, begins, line_in}
-use Rattle.formats.specs.Inner.Scanning.{held_by, held, scanned_at, held_all, line_at}
+use Rattle.formats.specs.Inner.Scanning.{held_by, held, scanned_at, line_at}
 use Rattle.formats.specs.declared.number.Number.{Number}
-use Rattle.formats.specs.declared.scan.Scanned.TheVariants.{Value, Misspelt}
-use Rattle.formats.specs.declared.scan.Numbers.{Numbers}
-use Rattle.formats.specs.declared.scan.Line.TheVariants.{Spelt, Misspelled}
+use Rattle.formats.specs.declared.scan.Scanned.{Scanned}
 use Rattle.formats.proofs.Laws.Numbers.Digits.{digit_range, lead_yes, lead_no, value_cons, value_positive}
-use Rattle.formats.proofs.Laws.Numbers.Spelling.{and_false}
+use Rattle.formats.proofs.Laws.Numbers.Spelling.{and_false, is_scanned, then_ends}
 
 -- ---- no number that is read is -0, so none loses its sign as a whole number
 
@@ -74,91 +76,146 @@ kept_then : (stop : ℕ) (s : List ℕ) → Kept (number_then stop s)
 unfolding number_then
 kept_then stop s = kept_stop stop s (field s) (kept_field s)
 
--- ---- the last number of a row
+-- ---- the numbers of a row, after some that stand in front of them
 
+abbrev pub in_front : List Number → Option (List Number × ℕ) → Option (List Number × ℕ)
+in_front ms (Some p) = Some (ms ++ p.0, p.1)
+in_front ms None = None
+
+front_twice : (ms : List Number) (n : Number) (o : Option (List Number × ℕ)) → in_front ms (in_front (n ∷ []) o) ≡ in_front (ms ++ (n ∷ [])) o
+front_twice ms n None = refl
+front_twice ms n (Some p) = ap (λ (l : List Number). Some (l, p.1)) (sym (append_assoc ms (n ∷ []) p.0))
+
+-- the last number of a row at `at`, and one number more before a row that starts where it ends
 module _ (at : ℕ) where
-  last_wrong : (x : Field) → Misspelt ≡ scanned_at at x → Misspelled ≡ line_at at (last x)
+  last_wrong : (x : Field) → None ≡ scanned_at at x → line_at at (last x) ≡ None
   last_wrong misspelt e = refl
   last_wrong (spelt neg v j) e = cc
 
-  last_right : (x : Field) → Kept x → (n z : Number) (k : ℕ) → z ≡ held_by false 0 → Value n k ≡ scanned_at at x → Spelt (record { first = n; second = z; third = z; fourth = z }) k ≡ line_at at (last x)
-  last_right misspelt h n z k ez e = cc
-  last_right (spelt neg v j) h n z k ez e =
-      let q : k ≡ at + j = cc in
-      let p : n ≡ held_by neg v = cc in
-      rw (q, p, ez, h)
+  last_right : (x : Field) → Kept x → (r : Scanned) → Some r ≡ scanned_at at x → line_at at (last x) ≡ Some (r.number ∷ [], r.next)
+  last_right misspelt h r e = cc
+  last_right (spelt neg v j) h r e = rw (is_scanned at neg v j r e, h)
 
--- ---- one number more in front of a row that starts where it ends
+  module _ (f : ℕ → Row) where
+    first_wrong : (x : Field) → None ≡ scanned_at at x → line_at at (first x (λ j. f (at + j))) ≡ None
+    first_wrong misspelt e = refl
+    first_wrong (spelt neg v j) e = cc
 
-module _ (at : ℕ) (f : ℕ → Row) where
-  first_wrong : (x : Field) → Misspelt ≡ scanned_at at x → Misspelled ≡ line_at at (first x (λ j. f (at + j)))
-  first_wrong misspelt e = refl
-  first_wrong (spelt neg v j) e = cc
+    prepend_front : (z : ℤ) (j : ℕ) (r : Row) → line_at at (prepend z j r) ≡ in_front (held z ∷ []) (line_at (at + j) r)
+    prepend_front z j misspelled = refl
+    prepend_front z j (row zs m) = ap (λ (n : ℕ). Some (held z ∷ map held zs, n)) (omega arith)
 
-  prepend_wrong : (z : ℤ) (j : ℕ) (r : Row) → Misspelled ≡ line_at (at + j) r → Misspelled ≡ line_at at (prepend z j r)
-  prepend_wrong z j misspelled e = refl
-  prepend_wrong z j (row zs m) e = cc
+    first_right : (x : Field) → Kept x → (r : Scanned) → Some r ≡ scanned_at at x → line_at at (first x (λ j. f (at + j))) ≡ in_front (r.number ∷ []) (line_at r.next (f r.next))
+    first_right misspelt h r e = cc
+    first_right (spelt neg v j) h r e = rw (is_scanned at neg v j r e) (prepend_front (signed neg v) j (f (at + j)) ∙ rw h)
 
-  prepend_right : (z : ℤ) (j : ℕ) (r : Row) (ns : Numbers) (end : ℕ) → Spelt ns end ≡ line_at (at + j) r → Spelt (record { first = held z; second = ns.first; third = ns.second; fourth = ns.third }) end ≡ line_at at (prepend z j r)
-  prepend_right z j misspelled ns end e = cc
-  prepend_right z j (row zs m) ns end e =
-      let p : ns ≡ held_all zs = cc in
-      let q : end ≡ at + j + m = cc in
-      let d : at + j + m ≡ at + (j + m) = omega arith in
-      rw (p, q, d)
+-- ---- a row that is read number by number
 
-  rest_wrong : (x : Field) (n : Number) (k : ℕ) → Value n k ≡ scanned_at at x → Misspelled ≡ line_at k (f k) → Misspelled ≡ line_at at (first x (λ j. f (at + j)))
-  rest_wrong misspelt n k e h = cc
-  rest_wrong (spelt neg v j) n k e h =
-      let q : k ≡ at + j = cc in
-      prepend_wrong (signed neg v) j (f (at + j)) (rw q at h)
+-- the stop after number k of n: a comma, or the end byte after the last
+abbrev pub Stops : ℕ → ℕ → ℕ → Type 0
+Stops n k stop = ((k + 1 < n) × (stop ≡ comma)) ⊎ ((n ≤ k + 1) × (stop ≡ end_byte))
 
-  rest_right : (x : Field) → Kept x → (n : Number) (k : ℕ) (ns : Numbers) (end : ℕ) → Value n k ≡ scanned_at at x → Spelt ns end ≡ line_at k (f k) → Spelt (record { first = n; second = ns.first; third = ns.second; fourth = ns.third }) end ≡ line_at at (first x (λ j. f (at + j)))
-  rest_right misspelt h n k ns end e g = cc
-  rest_right (spelt neg v j) h n k ns end e g =
-      let q : k ≡ at + j = cc in
-      let p : n ≡ held (signed neg v) = cc in
-      rw p (prepend_right (signed neg v) j (f (at + j)) ns end (rw q at g))
+-- what is left of a row to read
+abbrev left : ℕ → List ℕ → Row
+left zero s = row [] 0
+left (suc k) s = row_in (suc k) s
 
--- ---- a row at a position
+-- k numbers of a row of n at `at` are read, and the next one stands at `here`
+pub record RowSoFar (n : ℕ) (s : List ℕ) (at : ℕ) (numbers : List Number) (here k : ℕ) : Type 0 where
+  pub within : here ≤ length s
+  pub few : k ≤ n
+  pub long : length numbers ≡ n
+  pub answer : line_at at (row_in n (drop at s)) ≡ in_front (take k numbers) (line_at here (left (n - k) (drop here s)))
 
-row_one : (c : ℕ) (s : List ℕ) → c ≡ 1 → row_in c s ≡ last (number_then end_byte s)
+left_all : (n : ℕ) (s : List ℕ) → 1 ≤ n → left n s ≡ row_in n s
+left_all zero s h = absurd (omega arith)
+left_all (suc n) s h = refl
+
+front_none : (o : Option (List Number × ℕ)) → in_front [] o ≡ o
+front_none None = refl
+front_none (Some p) = refl
+
+pub row_start : (n : ℕ) (s : List ℕ) (at : ℕ) (numbers : List Number) → 1 ≤ n → at ≤ length s → length numbers ≡ n → RowSoFar n s at numbers at 0
+row_start n s at numbers h b l =
+    let z : n - 0 ≡ n = omega arith in
+    record {
+      within = b;
+      few = omega arith;
+      long = l;
+      answer = rw z (ap (line_at at) (sym (left_all n (drop at s) h)) ∙ sym (front_none _));
+    }
+
+left_last : (m : ℕ) (s : List ℕ) → m ≡ 1 → left m s ≡ last (number_then end_byte s)
 unfolding row_in
-row_one c s h = rw h
+left_last m s e = rw e
 
-row_more : (c : ℕ) (s : List ℕ) (at : ℕ) → 1 ≤ c → (c ≡ 1 → ⊥) → row_in c (drop at s) ≡ first (number_then comma (drop at s)) (λ j. row_in (c - 1) (drop (at + j) s))
+left_more : (m : ℕ) (s : List ℕ) (at : ℕ) → 2 ≤ m → left m (drop at s) ≡ first (number_then comma (drop at s)) (λ j. left (m - 1) (drop (at + j) s))
 unfolding row_in
-row_more zero s at h k = absurd (omega arith)
-row_more (suc zero) s at h k = absurd (k refl)
-row_more (suc (suc c)) s at h k =
-    let q : suc (suc c) - 1 ≡ suc c = omega arith in
+left_more zero s at h = absurd (omega arith)
+left_more (suc zero) s at h = absurd (omega arith)
+left_more (suc (suc m)) s at h =
+    let q : suc (suc m) - 1 ≡ suc m = omega arith in
     simp (q, drop-drop)
 
-module _ (s : List ℕ) (at c : ℕ) where
-  pub one_wrong : c ≡ 1 → Misspelt ≡ scanned_at at (number_then end_byte (drop at s)) → Misspelled ≡ line_at at (row_in c (drop at s))
-  one_wrong h e = rw (row_one c (drop at s) h) (last_wrong at (number_then end_byte (drop at s)) e)
+module _ (n : ℕ) (s : List ℕ) (at : ℕ) (numbers : List Number) (here k : ℕ) (g : RowSoFar n s at numbers here k) (b : k < n) where
+  -- the number at `here` is misspelt
+  pub row_wrong : (stop : ℕ) → Stops n k stop → None ≡ scanned_at here (number_then stop (drop here s)) → None ≡ line_at at (row_in n (drop at s))
+  row_wrong stop (inl t) e =
+      let w : None ≡ scanned_at here (number_then comma (drop here s)) = rw t.1 at e in
+      sym (g.answer ∙ ap (in_front (take k numbers)) (ap (line_at here) (left_more (n - k) s here (omega arith)) ∙ first_wrong here (λ j. left (n - k - 1) (drop j s)) (number_then comma (drop here s)) w))
+  row_wrong stop (inr t) e =
+      let w : None ≡ scanned_at here (number_then end_byte (drop here s)) = rw t.1 at e in
+      sym (g.answer ∙ ap (in_front (take k numbers)) (ap (line_at here) (left_last (n - k) (drop here s) (omega arith)) ∙ last_wrong here (number_then end_byte (drop here s)) w))
 
-  pub one_right : c ≡ 1 → (n z : Number) (k : ℕ) → z ≡ held_by false 0 → Value n k ≡ scanned_at at (number_then end_byte (drop at s)) → Spelt (record { first = n; second = z; third = z; fourth = z }) k ≡ line_at at (row_in c (drop at s))
-  one_right h n z k ez e = rw (row_one c (drop at s) h) (last_right at (number_then end_byte (drop at s)) (kept_then end_byte (drop at s)) n z k ez e)
+  module _ (r : Scanned) where
+    -- the numbers with it, before what is left
+    more : line_at here (left (n - k) (drop here s)) ≡ in_front (r.number ∷ []) (line_at r.next (left (n - (k + 1)) (drop r.next s))) → line_at at (row_in n (drop at s)) ≡ in_front (take (k + 1) (set numbers k r.number)) (line_at r.next (left (n - (k + 1)) (drop r.next s)))
+    more e =
+        g.answer
+        ∙ ap (in_front (take k numbers)) e
+        ∙ front_twice (take k numbers) r.number _
+        ∙ ap (λ l. in_front l (line_at r.next (left (n - (k + 1)) (drop r.next s)))) (sym (take_more_set numbers k r.number (omega (arith, g.long))))
 
-  module _ (h : 1 ≤ c) (m : c ≡ 1 → ⊥) where
-    pub more_wrong : Misspelt ≡ scanned_at at (number_then comma (drop at s)) → Misspelled ≡ line_at at (row_in c (drop at s))
-    more_wrong e = rw (row_more c s at h m) (first_wrong at (λ p. row_in (c - 1) (drop p s)) (number_then comma (drop at s)) e)
+    pub row_more : (stop : ℕ) → Stops n k stop → Some r ≡ scanned_at here (number_then stop (drop here s)) → RowSoFar n s at (set numbers k r.number) r.next (k + 1)
+    row_more stop t e = record {
+      within = then_ends s here stop r e (positive t);
+      few = omega arith;
+      long = rw length-set g.long;
+      answer = more (step t);
+    }
+      where
+        positive : Stops n k stop → 0 < stop
+        positive (inl t) = omega (arith, t.1)
+        positive (inr t) = omega (arith, t.1)
 
-    pub more_rest_wrong : (n : Number) (k : ℕ) → Value n k ≡ scanned_at at (number_then comma (drop at s)) → Misspelled ≡ line_at k (row_in (c - 1) (drop k s)) → Misspelled ≡ line_at at (row_in c (drop at s))
-    more_rest_wrong n k e g = rw (row_more c s at h m) (rest_wrong at (λ p. row_in (c - 1) (drop p s)) (number_then comma (drop at s)) n k e g)
+        step : Stops n k stop → line_at here (left (n - k) (drop here s)) ≡ in_front (r.number ∷ []) (line_at r.next (left (n - (k + 1)) (drop r.next s)))
+        step (inl t) =
+            let w : Some r ≡ scanned_at here (number_then comma (drop here s)) = rw t.1 at e in
+            let m : n - k - 1 ≡ n - (k + 1) = omega arith in
+            ap (line_at here) (left_more (n - k) s here (omega arith))
+            ∙ first_right here (λ j. left (n - k - 1) (drop j s)) (number_then comma (drop here s)) (kept_then comma (drop here s)) r w
+            ∙ ap (λ m. in_front (r.number ∷ []) (line_at r.next (left m (drop r.next s)))) m
+        step (inr t) =
+            let w : Some r ≡ scanned_at here (number_then end_byte (drop here s)) = rw t.1 at e in
+            let m : n - (k + 1) ≡ 0 = omega arith in
+            ap (line_at here) (left_last (n - k) (drop here s) (omega arith))
+            ∙ last_right here (number_then end_byte (drop here s)) (kept_then end_byte (drop here s)) r w
+            ∙ rw (m, add-zero)
 
-    pub more_right : (n : Number) (k : ℕ) (ns : Numbers) (end : ℕ) → Value n k ≡ scanned_at at (number_then comma (drop at s)) → Spelt ns end ≡ line_at k (row_in (c - 1) (drop k s)) → Spelt (record { first = n; second = ns.first; third = ns.second; fourth = ns.third }) end ≡ line_at at (row_in c (drop at s))
-    more_right n k ns end e g = rw (row_more c s at h m) (rest_right at (λ p. row_in (c - 1) (drop p s)) (number_then comma (drop at s)) (kept_then comma (drop at s)) n k ns end e g)
+pub row_all : (n : ℕ) (s : List ℕ) (at : ℕ) (numbers : List Number) (here k : ℕ) → RowSoFar n s at numbers here k → n ≤ k → Some (numbers, here) ≡ line_at at (row_in n (drop at s))
+row_all n s at numbers here k g h =
+    let m : n - k ≡ 0 = omega arith in
+    let e : take k numbers ≡ numbers = take_all k numbers (omega (arith, g.long)) in
+    sym (g.answer ∙ rw (m, e, add-zero, append-nil))
 
 -- ---- a line at a position
 
 after_at : (at j : ℕ) (r : Row) → line_at (at + j) r ≡ line_at at (after j r)
 after_at at j misspelled = refl
-after_at at j (row zs m) = ap (Spelt (held_all zs)) (omega arith)
+after_at at j (row zs m) = ap (λ (n : ℕ). Some (map held zs, n)) (omega arith)
 
 module _ (key s : List ℕ) (at c : ℕ) where
-  pub line_wrong : begins key (drop at s) ≡ false → Misspelled ≡ line_at at (line_in key c (drop at s))
+  pub line_wrong : begins key (drop at s) ≡ false → None ≡ line_at at (line_in key c (drop at s))
   unfolding line_in
   line_wrong e = rw (line_in, e)
 

@@ -1,7 +1,7 @@
 -- A tree listing, from what reading its parts answered. Leaves and nodes are read line by line into arrays: what was read, and after it what is still to be read, is what is due.
 -- Assumes nothing.
 use Prim.Native.Nat.{ℕ, suc, ◌+◌, ◌*◌, ◌-◌, ◌≤◌, ◌<◌}
-use mathlib.Core.Path.{◌≡◌, refl, sym, ap, ap₂, subst, ◌∙◌}
+use mathlib.Core.Path.{◌≡◌, refl, sym, ap, ap₂, ◌∙◌}
 use mathlib.Core.Logic.{◌≢◌}
 use mathlib.Core.List.{List, [], ◌∷◌, ◌++◌, map, map-map, append-nil, append_assoc}
 use native.Mathlib.Omega.{arith}
@@ -24,18 +24,11 @@ use Rattle.formats.specs.Ranges.{up_to, from_zero}
 use Rattle.formats.specs.Reading.Lines.{Read, reading, due_number, ended}
 use Rattle.formats.specs.NetText.{wire_key, sinks_key}
 use Rattle.formats.specs.Reading.Listings.{Stated, due_slack, same_only, Vertex, due_leaf, read_vertices, parents_in, points_in, read_stated, read_tree, read_listing}
-use Rattle.formats.specs.Inner.ListingReader.{StatedFrom, from_total, from_same, parents_from, vertex_held, vertices_from, leaves_in, nodes_in, tree_outcome}
-use Rattle.formats.specs.declared.reader.Place.{Place}
-use Rattle.formats.specs.declared.read_listing.StatedLines.{StatedLines}
-use Rattle.formats.specs.declared.read_listing.VertexLines.{VertexLines}
-use Rattle.formats.specs.declared.read_listing.VertexLines.TheVariants.{VerticesRead, VerticesRefused}
+use Rattle.formats.specs.Inner.ListingReader.{from_total, from_same, parents_from, vertex_held, vertices_from, leaves_in, nodes_in}
 use Rattle.formats.proofs.Laws.Lines.Outcomes.{then_then, then_value, then_refused, reading_reading}
 use Rattle.formats.proofs.Laws.Lines.Elements.{table_append}
 
 -- ---- the first three lines
--- an answer to what an outcome is equal to
-pub stated_by : (o p : Outcome (Read Stated)) (s : List ℕ) (r : StatedLines) → o ≡ p → StatedFrom p s r → StatedFrom o s r
-stated_by o p s r e h = subst (λ o. StatedFrom o s r) (sym e) h
 
 -- line 1
 module _ (n : ℕ) (s : List ℕ) where
@@ -217,18 +210,6 @@ tree_held n ps qs xs ys some kept =
     = ap₂ ◌++◌ leaves nodes ∙ sym (table_append (λ v. get_or qs v 0) 1 n (n - 1)) ∙ ap (parents_from qs 1) m in
     let points : points_in (vertices_from qs xs ys (suc n) (n - 1)) ≡ map (point_at xs ys) (range (suc n) (n - 1)) = map-map (λ v. v.point) (vertex_held qs xs ys) (range (suc n) (n - 1)) in
     λ i. record { parents = parents i; points = points i }
-
--- what the reader of the tree tells
-module _ (n : ℕ) (o : Outcome Tree) (r : VertexLines) (ps : List ℕ) (xs ys : List ℤ) where
-  pub tell_refused : (e : Refusal) → r ≡ VerticesRefused e → o ≡ refused e → o ≡ tree_outcome n r ps xs ys
-  tell_refused e q u = u ∙ sym (ap (λ r. tree_outcome n r ps xs ys) q)
-
-  module _ (told : o ≡ tree_outcome n r ps xs ys) where
-    pub told_refused : (e : Refusal) → r ≡ VerticesRefused e → o ≡ refused e
-    told_refused e q = told ∙ ap (λ r. tree_outcome n r ps xs ys) q
-
-    pub told_tree : (next : Place) → r ≡ VerticesRead next → o ≡ value (tree_of n ps xs ys)
-    told_tree next q = told ∙ ap (λ r. tree_outcome n r ps xs ys) q
 
 -- ---- the whole text
 

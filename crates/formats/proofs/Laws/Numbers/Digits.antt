@@ -7,7 +7,9 @@ use lib.ListN.{length, get_or, drop, drop_of_length-le}
 use lib.Seq.{drop-cons}
 use lib.Dec.{ltb, leb}
 use native.Mathlib.Omega.{arith}
-use borrow.Author.Tests.{leb-true, ltb-true}
+use borrow.Author.Tests.{leb-true, ltb-true, le-leb, lt-ltb}
+use mathlib.Core.Logic.{⊎_elim}
+use Rattle.std.specs.Char.{IsAsciiDigit, IsNotAsciiDigit}
 use Rattle.formats.specs.Reading.Numbers.{is_digit, lead, value}
 
 -- a digit is a byte from 48 to 57
@@ -57,3 +59,15 @@ pub value_positive : (v : ℕ) (s : List ℕ) → 0 < v → 0 < value v s
 unfolding value
 value_positive v [] h = h
 value_positive v (b ∷ s) h = value_positive (v * 10 + (b - 48)) s (omega arith)
+
+-- the library's test of a digit is the definition's
+pub digit_no : (b : ℕ) → IsNotAsciiDigit b → is_digit b ≡ false
+digit_no b h = go (leb 48 b) refl (ltb b 58) refl
+  where
+    go : (t : Bool) → leb 48 b ≡ t → (u : Bool) → ltb b 58 ≡ u → t && u ≡ false
+    go false p u q = refl
+    go true p false q = refl
+    go true p true q = absurd (⊎_elim (λ l. omega (arith, leb-true)) (λ l. omega (arith, ltb-true)) h)
+
+pub digit_yes : (b : ℕ) → IsAsciiDigit b → is_digit b ≡ true
+digit_yes b h = rw (le-leb 48 b (omega arith), lt-ltb b 58 (omega arith))

@@ -48,10 +48,10 @@ module _ (neg : Bool) (s : List ℕ) (from : ℕ) where
         count = rw add-one (omega arith);
       }
 
-  pub going_stop : (n : Number) (i : ℕ) → lead (drop i s) ≡ [] → Going neg s from n i → record { number = n; end = i } ≡ run_at neg s from
+  pub going_stop : (n : Number) (i : ℕ) → lead (drop i s) ≡ [] → Going neg s from n i → record { number = n; next = i } ≡ run_at neg s from
   going_stop n i e g =
       let t : min (value n.mag []) magnitude_cap ≡ min (value 0 (lead (drop from s))) magnitude_cap = rw e at g.total in
       let u : min n.mag magnitude_cap ≡ min (value 0 (lead (drop from s))) magnitude_cap = rw value_nil at t in
       let m : n.mag ≡ min (value 0 (lead (drop from s))) magnitude_cap = omega arith in
       let k : i ≡ from + length (lead (drop from s)) = omega (arith, rw e at g.count) in
-      λ j. record { number = record { neg = g.sign j; mag = m j }; end = k j }
+      λ j. record { number = record { neg = g.sign j; mag = m j }; next = k j }

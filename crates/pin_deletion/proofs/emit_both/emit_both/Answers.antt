@@ -9,17 +9,17 @@ pub returns-then-not-has_net_room : goal.returns-then-not-has_net_room
 returns-then-not-has_net_room c =
     let a = c.args in
     refused_answers a.net_out.now a.listing_out.now _ _
-    (net_short (texts_held a.header a.slack a.wire a.n a.parents.now a.xs.now a.ys.now a.required.now a.weights.now) _ _ (leb-false _ _ (sym c.has_net_room.ensures ∙ c.if-not-has_net_room.true)))
+    (net_short (texts_held a.header a.measures a.n a.parents.now a.xs.now a.ys.now a.required.now a.weights.now) _ _ (leb-false _ _ (sym c.has_net_room.ensures ∙ c.if-not-has_net_room.true)))
 
 pub returns-then-not-has_room : goal.returns-then-not-has_room
 returns-then-not-has_room c =
     let a = c.args in
     refused_answers a.net_out.now a.listing_out.now _ _
-    (listing_short (texts_held a.header a.slack a.wire a.n a.parents.now a.xs.now a.ys.now a.required.now a.weights.now) _ _ (leb-true _ _ (sym c.has_net_room.ensures ∙ c.if-not-has_net_room.false)) (leb-false _ _ (sym c.has_room.ensures ∙ c.if-not-has_room.true)))
+    (listing_short (texts_held a.header a.measures a.n a.parents.now a.xs.now a.ys.now a.required.now a.weights.now) _ _ (leb-true _ _ (sym c.has_net_room.ensures ∙ c.if-not-has_net_room.false)) (leb-false _ _ (sym c.has_room.ensures ∙ c.if-not-has_room.true)))
 
 pub returns : goal.returns
 returns c =
     let a = c.args in
-    written_answers a.net_out.now a.listing_out.now _ (texts_held a.header a.slack a.wire a.n a.parents.now a.xs.now a.ys.now a.required.now a.weights.now)
-    (both_fit_lem (texts_held a.header a.slack a.wire a.n a.parents.now a.xs.now a.ys.now a.required.now a.weights.now) _ _ (leb-true _ _ (sym c.has_net_room.ensures ∙ c.if-not-has_net_room.false)) (leb-true _ _ (sym c.has_room.ensures ∙ c.if-not-has_room.false)))
-    _ _ _ _ c.write_net-net_bytes.ensures c.write_listing-listing_bytes.ensures
+    written_answers a.net_out.now a.listing_out.now _ (texts_held a.header a.measures a.n a.parents.now a.xs.now a.ys.now a.required.now a.weights.now)
+    (both_fit_lem (texts_held a.header a.measures a.n a.parents.now a.xs.now a.ys.now a.required.now a.weights.now) _ _ (leb-true _ _ (sym c.has_net_room.ensures ∙ c.if-not-has_net_room.false)) (leb-true _ _ (sym c.has_room.ensures ∙ c.if-not-has_room.false)))
+    _ _ _ _ c.write-net_bytes.ensures c.write-listing_bytes.ensures

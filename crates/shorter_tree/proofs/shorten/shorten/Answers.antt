@@ -1,6 +1,5 @@
 -- The arrays close up, the queue gets the vertices of the shorter tree, which is legal, and it is measured. No loop.
-use mathlib.Core.Path.{◌∙◌}
-use native.Mathlib.Omega.{arith}
+use Rattle.std.proofs.Common.{◌∙◌, arith}
 use Rattle.tree.specs.Measures.{worst_slack, wire_length}
 use Rattle.shorter_tree.proofs.Laws.Shortened.{shortened_whole, shortened_net, shortened_tree}
 use Rattle.shorter_tree.proofs.shorten.shorten.Goals as goal
@@ -15,6 +14,15 @@ lowest_unreached-requires c =
       n_in_bounds = (omega (arith, room.3.0), omega (arith, room.3.1), omega (arith, room.3.2));
     }
 
+pub invariant_of-tree : goal.invariant_of-tree
+invariant_of-tree c =
+    let a = c.args in
+    let room = c.requires.room in
+    let k = c.close_up_all in
+    record {
+      held = shortened_tree a.header a.n a.s a.parents.now a.xs.now a.ys.now a.required.now a.weights.now c.requires.held room.0 room.1 room.2 k.new.parents k.new.xs k.new.ys k.new.required k.new.weights k.ensures k.auto.parents k.auto.xs k.auto.ys;
+    }
+
 pub measure_tree-requires : goal.measure_tree-requires
 measure_tree-requires c =
     let a = c.args in
@@ -22,7 +30,6 @@ measure_tree-requires c =
     let k = c.close_up_all in
     let u = c.lowest_unreached in (
       shortened_net a.header a.n a.s a.parents.now a.xs.now a.ys.now a.required.now a.weights.now c.requires.held room.0 room.1 room.2 k.new.parents k.new.xs k.new.ys k.new.required k.new.weights k.ensures k.auto.parents k.auto.xs k.auto.ys k.auto.required,
-      shortened_tree a.header a.n a.s a.parents.now a.xs.now a.ys.now a.required.now a.weights.now c.requires.held room.0 room.1 room.2 k.new.parents k.new.xs k.new.ys k.new.required k.new.weights k.ensures k.auto.parents k.auto.xs k.auto.ys,
       u.ensures.order (u.ensures.found ∙ (shortened_whole a.header a.n a.s a.parents.now a.xs.now a.ys.now a.required.now a.weights.now c.requires.held room.0 room.1 room.2 k.new.parents k.new.xs k.new.ys k.new.required k.new.weights k.ensures).1),
       omega (arith, room.3.3),
     )

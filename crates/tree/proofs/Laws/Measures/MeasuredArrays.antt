@@ -15,7 +15,7 @@ use Rattle.quantities.specs.Ranges.{Within, PointWithin}
 use Rattle.quantities.specs.Inner.Reach.{length_reach}
 use Rattle.quantities.specs.Distance.{distance}
 use Rattle.tree.specs.declared.header.Header.{Header}
-use Rattle.tree.specs.declared.measure.Tally.{Tally}
+use Rattle.tree.specs.declared.measures.Measures.{Measures}
 use Rattle.tree.specs.Lists.{sum_over, range, least_from, least}
 use Rattle.tree.specs.Net.{Net, size}
 use Rattle.tree.specs.Tree.{Tree, parent, place}
@@ -23,7 +23,7 @@ use Rattle.tree.specs.Measures.{edge_length, slack, worst_over, worst_slack, wir
 use Rattle.tree.specs.Limits.{position_limit, sink_limit, required_limit}
 use Rattle.tree.specs.Inner.DerivedLimits.{length_limit}
 use Rattle.tree.specs.Inner.Arrays.{point_at, length_above, net_of, tree_of, HoldsNet, HoldsTree}
-use Rattle.tree.specs.Inner.Tallies.{slack_at, least_slack, edge_sum}
+use Rattle.tree.specs.Inner.Measuring.{slack_at, least_slack, edge_sum}
 use Rattle.tree.proofs.Laws.Measures.InReach.{distance_limit}
 use Rattle.tree.proofs.Laws.Lists.Tables.{table_cong}
 use Rattle.tree.proofs.Laws.Arrays.NetAndTree.{parents_at, size_is, required_at, place_at}
@@ -114,13 +114,13 @@ unfolding worst_slack
 worst_is N T n slacks e each =
     ap least (table_cong (slack_at slacks) (slack N T) 1 n (λ s p q. each s p (omega arith))) ∙ ap (λ k. worst_over N T (range 1 k)) (sym e)
 
--- ---- a tally is its two numbers
+-- ---- measures are their two numbers
 
-pub tally_same : (t u : Tally) → t.worst.0 ≡ u.worst.0 → t.wire.0 ≡ u.wire.0 → t ≡ u
-tally_same t u d e = ap₂ made d e
+pub same_measures : (t u : Measures) → t.slack.0 ≡ u.slack.0 → t.wire.0 ≡ u.wire.0 → t ≡ u
+same_measures t u d e = ap₂ made d e
   where
-    made : ℤ → ℕ → Tally
-    made z k = record { worst = record { 0 = z }; wire = record { 0 = k } }
+    made : ℤ → ℕ → Measures
+    made z k = record { slack = record { 0 = z }; wire = record { 0 = k } }
 
 -- ---- the vertices 1 to v - 1 are tallied: the worst slack of the sinks among them, and the wire
 

@@ -22,7 +22,7 @@ use Rattle.tree.specs.Measures.{path_up, path, edge_delay, path_delay, one_if, d
 use Rattle.tree.specs.Limits.{branch_limit}
 use Rattle.tree.specs.Inner.DerivedLimits.{cost_limit, spend_limit}
 use Rattle.tree.specs.Inner.Arrays.{net_of, tree_of, HoldsNet, HoldsTree, RootDown}
-use Rattle.tree.specs.Inner.Tallies.{slack_at, CostsInRange, cost_above, spent_on}
+use Rattle.tree.specs.Inner.Measuring.{slack_at, CostsInRange, cost_above, spent_on}
 use Rattle.tree.proofs.Laws.Lists.Sums.{equal?, sum_over-add, sum_over_scale}
 use Rattle.tree.proofs.Laws.Arrays.NetAndTree.{parents_length, parents_at, size_is, required_at}
 use Rattle.tree.proofs.Laws.Measures.VertexDelays.{sub-sub}

@@ -4,7 +4,7 @@ use mathlib.Core.Path.{◌≡◌, sym, ap, ◌∙◌}
 use mathlib.Core.Logic.{◌≢◌, ◌⊎◌, inl, inr}
 use mathlib.Core.List.{List, [], ◌∷◌, map}
 use mathlib.Core.Bool.{not}
-use mathlib.Core.Option.{some}
+use Rattle.std.specs.Prelude.{Some}
 use native.Mathlib.Omega.{arith}
 use borrow.Author.Tests.{eq-eqb, ne_eqb}
 use lib.Dec.{eqb}
@@ -70,7 +70,7 @@ module _ (ps : List ℕ) (m : ℕ) (cs : List ℕ) (v : ℕ) (counted : Counted 
 -- ---- the first vertex with a wrong number of children, by the counts
 
 module _ (n : ℕ) (P cs : List ℕ) (some_sink : 1 ≤ n) (counts : (u : ℕ) → u < 2 * n → get_or cs u 0 ≡ count u P) where
-  pub root_wrong : get_or cs 0 0 ≢ 1 → wrong_children n P ≡ some 0
+  pub root_wrong : get_or cs 0 0 ≢ 1 → wrong_children n P ≡ Some 0
   root_wrong h = rw (ne_eqb (count 0 P) 1 (λ e. h (counts 0 (omega arith) ∙ e)))
 
   pub root_right : get_or cs 0 0 ≡ 1 → wrong_children n P ≡ first_with (λ b. not (eqb (get_or cs b 0) 2)) (branch_numbers n)

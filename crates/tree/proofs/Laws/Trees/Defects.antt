@@ -4,7 +4,7 @@ use mathlib.Core.Path.{◌≡◌, refl, sym, ap, ◌∙◌, subst}
 use mathlib.Core.Bool.{Bool, true, false, cond, not}
 use mathlib.Core.Logic.{◌≢◌, ◌⊎◌, inl, inr}
 use mathlib.Core.List.{List, [], ◌∷◌}
-use mathlib.Core.Option.{none, some}
+use Rattle.std.specs.Prelude.{None, Some}
 use native.Mathlib.Omega.{arith}
 use lib.ListN.{length, get_or}
 use lib.Dec.{T, eqb, eqb→eq, eqb_refl}
@@ -16,20 +16,20 @@ use Rattle.tree.specs.Tree.{parent_of, ancestor}
 
 -- ---- the first that passes
 
-pub first_none : (test : ℕ → Bool) (l : List ℕ) → first_with test l ≡ none → (v : ℕ) → count v l ≢ 0 → test v ≡ false
+pub first_none : (test : ℕ → Bool) (l : List ℕ) → first_with test l ≡ None → (v : ℕ) → count v l ≢ 0 → test v ≡ false
 first_none test [] e v m = absurd (m refl)
 first_none test (x ∷ l) e v m = go (test x) refl e (equal? v x) (λ q. first_none test l q v)
   where
-    go : (t : Bool) → test x ≡ t → cond t (some x) (first_with test l) ≡ none → (v ≡ x) ⊎ (v ≢ x) → (first_with test l ≡ none → count v l ≢ 0 → test v ≡ false) → test v ≡ false
+    go : (t : Bool) → test x ≡ t → cond t (Some x) (first_with test l) ≡ None → (v ≡ x) ⊎ (v ≢ x) → (first_with test l ≡ None → count v l ≢ 0 → test v ≡ false) → test v ≡ false
     go true h q s ih = let z : ◌≡◌ {A = ℕ} 0 1 = cc in absurd (omega arith)
     go false h q (inl s) ih = ap test s ∙ h
     go false h q (inr d) ih = ih q (omega (arith, delta_ne v x d))
 
-pub none_first : (test : ℕ → Bool) (l : List ℕ) → ((v : ℕ) → count v l ≢ 0 → test v ≡ false) → first_with test l ≡ none
+pub none_first : (test : ℕ → Bool) (l : List ℕ) → ((v : ℕ) → count v l ≢ 0 → test v ≡ false) → first_with test l ≡ None
 none_first test [] h = refl
 none_first test (x ∷ l) h = go (test x) (h x (omega (arith, delta_self x))) (none_first test l (λ v m. h v (omega arith)))
   where
-    go : (t : Bool) → t ≡ false → first_with test l ≡ none → cond t (some x) (first_with test l) ≡ none
+    go : (t : Bool) → t ≡ false → first_with test l ≡ None → cond t (Some x) (first_with test l) ≡ None
     go true e ih = let z : ◌≡◌ {A = ℕ} 0 1 = cc in absurd (omega arith)
     go false e ih = ih
 
@@ -40,11 +40,11 @@ pub record Lowest (test : ℕ → Bool) (a n v : ℕ) : Type 0 where
   pub passes : test v ≡ true
   pub none_below : (u : ℕ) → a ≤ u → u < v → test u ≡ false
 
-first_some : (test : ℕ → Bool) (a n v : ℕ) → first_with test (range a n) ≡ some v → Lowest test a n v
+first_some : (test : ℕ → Bool) (a n v : ℕ) → first_with test (range a n) ≡ Some v → Lowest test a n v
 first_some test a zero v e = let z : ◌≡◌ {A = ℕ} 0 1 = cc in absurd (omega arith)
 first_some test a (suc n) v e = go (test a) refl e (first_some test (suc a) n v)
   where
-    go : (t : Bool) → test a ≡ t → cond t (some a) (first_with test (range (suc a) n)) ≡ some v → (first_with test (range (suc a) n) ≡ some v → Lowest test (suc a) n v) → Lowest test a (suc n) v
+    go : (t : Bool) → test a ≡ t → cond t (Some a) (first_with test (range (suc a) n)) ≡ Some v → (first_with test (range (suc a) n) ≡ Some v → Lowest test (suc a) n v) → Lowest test a (suc n) v
     go true h q ih = let e : a ≡ v = cc in record { from = omega arith; below = omega arith; passes = ap test (sym e) ∙ h; none_below = λ u l k. absurd (omega arith) }
     go false h q ih = let r : Lowest test (suc a) n v = ih q in record { from = omega (arith, r.from); below = omega (arith, r.below); passes = r.passes; none_below = λ u l k. low r u l k (equal? u a) }
       where
@@ -94,7 +94,7 @@ pub record Read (n : ℕ) (P : List ℕ) : Type 0 where
   pub no_sink_lem : (i : ℕ) → i < length P → (get_or P i 0 ≡ 0) ⊎ (n < get_or P i 0)
 
 -- the numbers of children where none is wrong
-module _ (n : ℕ) (P : List ℕ) (w : wrong_children n P ≡ none) where
+module _ (n : ℕ) (P : List ℕ) (w : wrong_children n P ≡ None) where
   counts : (v : ℕ) → count v (0 ∷ branch_numbers n) ≢ 0 → not (eqb (count v P) (due_children v)) ≡ false
   counts = first_none (λ v. not (eqb (count v P) (due_children v))) (0 ∷ branch_numbers n) w
 
@@ -127,18 +127,18 @@ module _ (n : ℕ) (P : List ℕ) (w : wrong_children n P ≡ none) where
 
 -- ---- what is found is the lowest
 
-pub unreached_lowest : (n : ℕ) (P : List ℕ) (v : ℕ) → unreached n P ≡ some v → Lowest (λ v. not (eqb (ancestor (parent_of P) (2 * n - 1) v) 0)) 1 (2 * n - 1) v
+pub unreached_lowest : (n : ℕ) (P : List ℕ) (v : ℕ) → unreached n P ≡ Some v → Lowest (λ v. not (eqb (ancestor (parent_of P) (2 * n - 1) v) 0)) 1 (2 * n - 1) v
 unreached_lowest n P v e = first_some (λ v. not (eqb (ancestor (parent_of P) (2 * n - 1) v) 0)) 1 (2 * n - 1) v e
 
 -- the root first
-pub wrong_lowest : (n : ℕ) (P : List ℕ) (v : ℕ) → wrong_children n P ≡ some v
+pub wrong_lowest : (n : ℕ) (P : List ℕ) (v : ℕ) → wrong_children n P ≡ Some v
     → ((v ≡ 0) × (count 0 P ≢ 1)) ⊎ ((count 0 P ≡ 1) × Lowest (λ v. not (eqb (count v P) (due_children v))) (suc n) (n - 1) v)
 wrong_lowest n P v e = go (eqb (count 0 P) 1) (λ t. eqb→eq (count 0 P) 1 t) (λ q. subst (λ i. T (eqb i 1)) (sym q) (eqb_refl 1)) e
   where
     test : ℕ → Bool
     test v = not (eqb (count v P) (due_children v))
 
-    go : (t : Bool) → (T t → count 0 P ≡ 1) → (count 0 P ≡ 1 → T t) → cond (not t) (some 0) (first_with (λ v. not (eqb (count v P) (due_children v))) (branch_numbers n)) ≡ some v
+    go : (t : Bool) → (T t → count 0 P ≡ 1) → (count 0 P ≡ 1 → T t) → cond (not t) (Some 0) (first_with (λ v. not (eqb (count v P) (due_children v))) (branch_numbers n)) ≡ Some v
         → ((v ≡ 0) × (count 0 P ≢ 1)) ⊎ ((count 0 P ≡ 1) × Lowest (λ v. not (eqb (count v P) (due_children v))) (suc n) (n - 1) v)
     go true f g q = inr (f tt, first_some (λ v. not (eqb (count v P) (due_children v))) (suc n) (n - 1) v q)
     go false f g q = inl ((let z : 0 ≡ v = cc in sym z), g)

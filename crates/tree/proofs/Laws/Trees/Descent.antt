@@ -4,7 +4,7 @@ use mathlib.Core.Path.{◌≡◌, refl, sym, ap, ◌∙◌, subst}
 use mathlib.Core.Bool.{true, false, not}
 use mathlib.Core.Logic.{◌≢◌, ◌⊎◌, inl, inr}
 use mathlib.Core.List.{List, [], ◌∷◌}
-use mathlib.Core.Option.{none}
+use Rattle.std.specs.Prelude.{None}
 use native.Mathlib.Omega.{arith}
 use native.Mathlib.Decide.{dec_le}
 use borrow.Author.Tests.{eq-eqb, ne_eqb}
@@ -307,7 +307,7 @@ module _ {n : ℕ} {ps queue : List ℕ} {end : ℕ} (D : Descended n ps queue e
         go (inr d) =
             absurd (omega (arith, places_few (λ j. get_or queue j 0) end (2 * n - 1) (inside D) D.once (v ∷ []) one (λ x q. only d x q (equal? x v))))
 
-    pub descent_full : end ≡ 2 * n - 1 → unreached n (parents_of n ps) ≡ none
+    pub descent_full : end ≡ 2 * n - 1 → unreached n (parents_of n ps) ≡ None
     descent_full full = none_first (λ v. not (eqb (ancestor p (2 * n - 1) v) 0)) (range 1 (2 * n - 1)) each
       where
         each : (v : ℕ) → count v (range 1 (2 * n - 1)) ≢ 0 → not (eqb (ancestor p (2 * n - 1) v) 0) ≡ false
@@ -342,7 +342,7 @@ module _ {n : ℕ} {ps queue : List ℕ} {end : ℕ} (D : Descended n ps queue e
           same v a l (inr d) = ne_eqb (get_or marks v 0) 0 d ∙ ap not (sym (eq-eqb (ancestor p (2 * n - 1) v) 0 (queued_reached v (M.in_queue v l d))))
 
       -- where all are marked all are queued
-      pub marked_full : first_with (λ v. eqb (get_or marks v 0) 0) (range 1 (2 * n - 1)) ≡ none → end ≡ 2 * n - 1
+      pub marked_full : first_with (λ v. eqb (get_or marks v 0) 0) (range 1 (2 * n - 1)) ≡ None → end ≡ 2 * n - 1
       marked_full e = omega (arith, descent_few D, places_many (λ j. get_or queue j 0) end (2 * n - 1) (inside D) every)
         where
           every : (x : ℕ) → 1 ≤ x → x ≤ 2 * n - 1 → (j : ℕ) × (j < end) × (get_or queue j 0 ≡ x)

@@ -4,7 +4,7 @@ use mathlib.Core.Path.{◌≡◌, refl, sym, ap, subst, ◌∙◌}
 use mathlib.Core.Bool.{Bool, true, false, not}
 use mathlib.Core.Logic.{◌≢◌, ◌⊎◌, inl, inr, ⊎_elim, ◌↔◌}
 use mathlib.Core.List.{List, ◌∷◌}
-use mathlib.Core.Option.{Option, none, some}
+use Rattle.std.specs.Prelude.{Option, None, Some}
 use native.Mathlib.Omega.{arith}
 use native.Mathlib.Decide.{dec_le}
 use lib.Dec.{eqb}
@@ -31,10 +31,10 @@ same_lowest u v p q = go (dec_le (suc u) v) (dec_le (suc v) u)
 module _ (n : ℕ) (P : List ℕ) where
   -- ---- the numbers of children
 
-  right_if : wrong_children n P ≡ none → RightChildren n P
+  right_if : wrong_children n P ≡ None → RightChildren n P
   right_if w = record { root = root_one n P w; branch = branch_two n P w }
 
-  right_only : 1 ≤ n → RightChildren n P → wrong_children n P ≡ none
+  right_only : 1 ≤ n → RightChildren n P → wrong_children n P ≡ None
   right_only h R = none_first (λ v. not (eqb (count v P) (due_children v))) (0 ∷ branch_numbers n) counts
     where
       counts : (v : ℕ) → count v (0 ∷ branch_numbers n) ≢ 0 → not (eqb (count v P) (due_children v)) ≡ false
@@ -43,7 +43,7 @@ module _ (n : ℕ) (P : List ℕ) where
           let r : (suc n ≤ suc v) × (suc v < suc n + (n - 1)) = range_in (suc n) (n - 1) (suc v) (omega arith) in
           no_differs (count (suc v) P) 2 (R.branch (suc v) (omega arith) (omega arith))
 
-  wrong_if : (v : ℕ) → wrong_children n P ≡ some v → WrongChildrenAt n P v
+  wrong_if : (v : ℕ) → wrong_children n P ≡ Some v → WrongChildrenAt n P v
   wrong_if v e = go v (wrong_lowest n P v e)
     where
       go : (v : ℕ) → ((v ≡ 0) × (count 0 P ≢ 1)) ⊎ ((count 0 P ≡ 1) × Lowest (λ v. not (eqb (count v P) (due_children v))) (suc n) (n - 1) v) → WrongChildrenAt n P v
@@ -65,23 +65,23 @@ module _ (n : ℕ) (P : List ℕ) where
   wrong_right v (at_root h) R = h R.root
   wrong_right v (at_branch r a b h f) R = h (R.branch v a b)
 
-  wrong_only : (v : ℕ) → WrongChildrenAt n P v → wrong_children n P ≡ some v
+  wrong_only : (v : ℕ) → WrongChildrenAt n P v → wrong_children n P ≡ Some v
   wrong_only v W = go (wrong_children n P) refl
     where
-      go : (o : Option ℕ) → wrong_children n P ≡ o → wrong_children n P ≡ some v
-      go none e = absurd (wrong_right v W (right_if e))
-      go (some u) e = e ∙ ap some (wrong_one u v (wrong_if u e) W)
+      go : (o : Option ℕ) → wrong_children n P ≡ o → wrong_children n P ≡ Some v
+      go None e = absurd (wrong_right v W (right_if e))
+      go (Some u) e = e ∙ ap Some (wrong_one u v (wrong_if u e) W)
 
-  pub right_children : 1 ≤ n → (wrong_children n P ≡ none) ↔ RightChildren n P
+  pub right_children : 1 ≤ n → (wrong_children n P ≡ None) ↔ RightChildren n P
   right_children h = (right_if, right_only h)
 
-  pub wrong_children_lem : (v : ℕ) → (wrong_children n P ≡ some v) ↔ WrongChildrenAt n P v
+  pub wrong_children_lem : (v : ℕ) → (wrong_children n P ≡ Some v) ↔ WrongChildrenAt n P v
   wrong_children_lem v = (wrong_if v, wrong_only v)
 
   -- ---- the vertices that are reached
 
   module _ (R : Read n P) where
-    reached_if : unreached n P ≡ none → (v : ℕ) → v < 2 * n → Reached P v
+    reached_if : unreached n P ≡ None → (v : ℕ) → v < 2 * n → Reached P v
     reached_if e zero h = (0, refl)
     reached_if e (suc v) h = (
       2 * n - 1,
@@ -89,14 +89,14 @@ module _ (n : ℕ) (P : List ℕ) where
           (first_none (λ v. not (eqb (ancestor (parent_of P) (2 * n - 1) v) 0)) (range 1 (2 * n - 1)) e (suc v) (in_range 1 (2 * n - 1) (suc v) (omega arith) (omega arith))),
     )
 
-    reached_only : ((v : ℕ) → v < 2 * n → Reached P v) → unreached n P ≡ none
+    reached_only : ((v : ℕ) → v < 2 * n → Reached P v) → unreached n P ≡ None
     reached_only f =
         none_first (λ v. not (eqb (ancestor (parent_of P) (2 * n - 1) v) 0)) (range 1 (2 * n - 1)) λ v m.
         let r : (1 ≤ v) × (v < 1 + (2 * n - 1)) = range_in 1 (2 * n - 1) v m in
         let h : v < 2 * n = omega (arith, R.some_sink) in
         no_differs (ancestor (parent_of P) (2 * n - 1) v) 0 (reached_within n P R.size R.inside v h (f v h))
 
-    lost_if : (v : ℕ) → unreached n P ≡ some v → LowestUnreached n P v
+    lost_if : (v : ℕ) → unreached n P ≡ Some v → LowestUnreached n P v
     lost_if v e =
         let L = unreached_lowest n P v e in
         let h : v < 2 * n = omega (arith, L.below, R.some_sink) in
@@ -110,19 +110,19 @@ module _ (n : ℕ) (P : List ℕ) where
         low f zero h = (0, refl)
         low f (suc u) h = (2 * n - 1, differs_no (ancestor (parent_of P) (2 * n - 1) (suc u)) 0 (f (suc u) (omega arith) h))
 
-    lost_only : (v : ℕ) → LowestUnreached n P v → unreached n P ≡ some v
+    lost_only : (v : ℕ) → LowestUnreached n P v → unreached n P ≡ Some v
     lost_only v L = go (unreached n P) refl
       where
-        go : (o : Option ℕ) → unreached n P ≡ o → unreached n P ≡ some v
-        go none e = absurd (L.unreached (reached_if e v L.vertex))
-        go (some u) e =
+        go : (o : Option ℕ) → unreached n P ≡ o → unreached n P ≡ Some v
+        go None e = absurd (L.unreached (reached_if e v L.vertex))
+        go (Some u) e =
             let M = lost_if u e in
-            e ∙ ap some (same_lowest u v (λ p. M.unreached (L.lowest u p)) (λ p. L.unreached (M.lowest v p)))
+            e ∙ ap Some (same_lowest u v (λ p. M.unreached (L.lowest u p)) (λ p. L.unreached (M.lowest v p)))
 
-    pub all_reached : (unreached n P ≡ none) ↔ ((v : ℕ) → v < 2 * n → Reached P v)
+    pub all_reached : (unreached n P ≡ None) ↔ ((v : ℕ) → v < 2 * n → Reached P v)
     all_reached = (reached_if, reached_only)
 
-    pub lowest_unreached : (v : ℕ) → (unreached n P ≡ some v) ↔ LowestUnreached n P v
+    pub lowest_unreached : (v : ℕ) → (unreached n P ≡ Some v) ↔ LowestUnreached n P v
     lowest_unreached v = (lost_if v, lost_only v)
 
     -- ---- legal just where neither is found
@@ -137,5 +137,5 @@ module _ (n : ℕ) (P : List ℕ) where
       reach = f;
     }
 
-    pub legal_only : Legal n P → (wrong_children n P ≡ none) × (unreached n P ≡ none)
+    pub legal_only : Legal n P → (wrong_children n P ≡ None) × (unreached n P ≡ None)
     legal_only L = (right_only R.some_sink (record { root = L.root; branch = L.branch }), reached_only L.reach)

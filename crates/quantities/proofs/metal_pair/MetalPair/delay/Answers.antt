@@ -42,8 +42,8 @@ delay-upward-requires c =
     let r = c.requires in
     (r.0.1, span_fits a.p.y a.q.y r.1.1 r.2.1 _ c.span-2.ensures)
 
-pub plus-requires : goal.plus-requires
-plus-requires c =
+pub add-requires : goal.add-requires
+add-requires c =
     let a = c.args in
     let r = c.requires in (
       along_fits a.p.x a.q.x r.1.0 r.2.0 _ c.span.ensures a.self.horizontal r.0.0 _ c.delay-across.ensures,
@@ -55,5 +55,5 @@ unfolding delay
 returns c =
     let a = c.args in
     let r = c.requires in
-    c.plus.ensures
+    c.add.ensures
     ∙ ap₂ ◌+ℤ◌ (along a.p.x a.q.x r.1.0 r.2.0 _ c.span.ensures a.self.horizontal _ c.delay-across.ensures) (along a.p.y a.q.y r.1.1 r.2.1 _ c.span-2.ensures a.self.vertical _ c.delay-upward.ensures)

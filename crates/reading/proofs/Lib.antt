@@ -1,0 +1,2 @@
+-- Laws about lines of the two texts, for the proofs of this crate.
+pub mod Laws
