@@ -57,7 +57,9 @@ pub fn print_plan<P: Planner>(net: &[u8], name: &[u8], out: &mut [u8], err: &mut
     }
 }
 
-// Judges a listing. The answer goes to the start of `out`, the complaint to the start of `err`.
+// Judges a listing. The answer goes to the start of `out`, the complaint to the start of `err`. It is no part of its caller, so that a text that could not be read
+// costs no stack for it.
+#[inline(never)]
 pub fn print_judgement(
     net: &[u8],
     listing: &[u8],

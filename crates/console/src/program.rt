@@ -10,6 +10,23 @@ use formats::limits::{LISTING_LENGTH_LIMIT, NET_LENGTH_LIMIT};
 use operations::planner::Planner;
 use std::io::{Read, Write};
 
+// The answer to a net that was read goes to `out`, a refusal in words to `err`. What is given is how many bytes went to `out`, as the system tells. It is no part
+// of its caller, so that its buffers take no stack where the net could not be read.
+#[inline(never)]
+fn answer_net<P: Planner, O: Write, E: Write>(net: &[u8], out: &mut O, err: &mut E) -> usize
+    ensures { Appends (O.contents out.old) (O.contents out.new) (take result (plan_printed (P.answers net.now listing_length_limit))) }
+{
+    let mut answer = [0u8; LISTING_LENGTH_LIMIT];
+    let mut complaint = [0u8; COMPLAINT_LENGTH];
+    let lengths = print_plan::<P>(net, b"standard input", &mut answer, &mut complaint);
+    write_out(
+        out,
+        err,
+        &answer[..lengths.answer],
+        &complaint[..lengths.complaint],
+    )
+}
+
 // The net comes from `input`, the listing or the line of a refusal goes to `out`, a refusal in words to `err`. What is given is how many bytes went to `out`, as
 // the system tells; none where the net could not be read.
 pub fn run_plan<P: Planner, R: Read, O: Write, E: Write>(
@@ -24,18 +41,5 @@ pub fn run_plan<P: Planner, R: Read, O: Write, E: Write>(
     let Some(bytes) = read_text(input, b"standard input", &mut net, err) else {
         return 0;
     };
-    let mut answer = [0u8; LISTING_LENGTH_LIMIT];
-    let mut complaint = [0u8; COMPLAINT_LENGTH];
-    let lengths = print_plan::<P>(
-        &net[..bytes],
-        b"standard input",
-        &mut answer,
-        &mut complaint,
-    );
-    write_out(
-        out,
-        err,
-        &answer[..lengths.answer],
-        &complaint[..lengths.complaint],
-    )
+    answer_net::<P, O, E>(&net[..bytes], out, err)
 }

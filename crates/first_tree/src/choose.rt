@@ -32,6 +32,9 @@ fn nearer_of(a: Edge, b: Edge) -> Edge
     requires { a.score.0 ≡ b.score.0 }
     ensures { result ≡ first_of a b }
 {
+    if b.far < a.far {
+        return b;
+    }
     if (a.far, a.end) < (b.far, b.end) {
         a
     } else {

@@ -46,6 +46,7 @@ pub fn from_zero(limit: u64) -> Range
 }
 
 // The number itself, where it is in the range.
+#[inline(always)]
 pub fn in_range(number: Number, range: Range) -> Option<i64>
     requires { Narrow range }
     ensures { (z : ℤ) → number ≡ held z → result ≡ cond (inside range z) (Some z) None }
@@ -62,6 +63,7 @@ pub fn in_range(number: Number, range: Range) -> Option<i64>
 }
 
 // The numbers themselves, where each is in its range.
+#[inline(always)]
 pub fn in_ranges<const K: usize>(numbers: &[Number], ranges: [Range; K]) -> Option<[i64; K]>
     requires { AllNarrow ranges × (length numbers.now ≡ K) }
     ensures { (zs : List ℤ) → numbers.now ≡ map held zs → result ≡ cond (all_inside ranges.entry zs) (Some zs) None }

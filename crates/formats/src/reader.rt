@@ -32,6 +32,7 @@ impl<'a> LineReader<'a> {
     }
 
     // The numbers of the line that the reader has come to, `key` and K numbers, after which it moves on. Where the line is not as due it stays.
+    #[inline(always)]
     pub fn row<const K: usize>(&mut self, key: &[u8]) -> Result<[Number; K], Refusal>
         requires { AtLine self.old × (1 ≤ K) }
         ensures answer { result ≡ row_answer self.old (line_in key.now K (ahead self.old)) }
@@ -48,6 +49,7 @@ impl<'a> LineReader<'a> {
     }
 
     // The numbers of that line, each in its range. Where it is refused the reader stays.
+    #[inline(always)]
     pub fn numbers<const K: usize>(
         &mut self,
         key: &[u8],

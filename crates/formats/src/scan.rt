@@ -77,6 +77,7 @@ fn number_then(text: &[u8], at: usize, stop: u8) -> Option<Scanned>
 }
 
 // The K numbers in a row at `at`, and where the next line starts.
+#[inline(always)]
 fn row_at<const K: usize>(text: &[u8], at: usize) -> Option<([Number; K], usize)>
     requires { (at ≤ length text.now) × (1 ≤ K) }
     ensures { result ≡ line_at at (row_in K (drop at text.now)) }
@@ -93,6 +94,7 @@ fn row_at<const K: usize>(text: &[u8], at: usize) -> Option<([Number; K], usize)
 }
 
 // The line at `at` that is due there: `key` and K numbers, and where the next line starts.
+#[inline(always)]
 pub fn line_at<const K: usize>(text: &[u8], at: usize, key: &[u8]) -> Option<([Number; K], usize)>
     requires { (at ≤ length text.now) × (1 ≤ K) }
     ensures { result ≡ line_at at (line_in key.now K (drop at text.now)) }

@@ -2,6 +2,7 @@ pub mod MinMax
 pub mod Floor
 pub mod Rising
 pub mod Times
+pub mod Lengths
 pub mod Distance
 pub mod Median
 pub mod Delay

@@ -46,6 +46,7 @@ struct Vertex {
 }
 
 // Whether a number is k.
+#[inline(always)]
 fn is_exactly(number: Number, k: usize) -> bool
     requires { k < magnitude_cap }
     ensures { (z : ℤ) → number ≡ held z → result ≡ (le_z z (pos k) && le_z (pos k) z) }
@@ -60,6 +61,7 @@ fn is_sink(n: usize, v: usize) -> bool
 }
 
 // The parent that line `line` says: no sink.
+#[inline(always)]
 fn no_sink(parent: usize, n: usize, line: usize) -> Result<usize, Refusal>
     ensures { result ≡ cond (is_sink n parent) (Err (SinkParent line)) (Ok parent) }
 {
@@ -70,6 +72,7 @@ fn no_sink(parent: usize, n: usize, line: usize) -> Result<usize, Refusal>
 }
 
 // The numbers after the first on line `line`, each in its range. The first is k.
+#[inline(always)]
 fn numbers_after<const K: usize>(
     numbers: &[Number],
     ranges: [Range; K],
@@ -87,6 +90,7 @@ fn numbers_after<const K: usize>(
 }
 
 // The parent of leaf k, by its line, `leaf=k,P`.
+#[inline(always)]
 fn leaf_at(lines: &mut LineReader, n: usize, k: usize) -> Result<usize, Refusal>
     requires { AtVertex n k lines.old }
     ensures { Says (due_leaf n k (ahead lines.old)) leaf_told (k + 4) lines.old result lines.new }
@@ -99,6 +103,7 @@ fn leaf_at(lines: &mut LineReader, n: usize, k: usize) -> Result<usize, Refusal>
 }
 
 // Node k, by its line, `node=k,P,X,Y`.
+#[inline(always)]
 fn node_at(lines: &mut LineReader, n: usize, k: usize) -> Result<Vertex, Refusal>
     requires { AtVertex n k lines.old }
     ensures { Says (due_node n k (ahead lines.old)) node_told (k + 4) lines.old result lines.new }

@@ -65,6 +65,7 @@ fn is_far(root: Point, pin: Point) -> bool
 }
 
 // The line of sink s, into the place s of the arrays.
+#[inline(always)]
 fn read_sink(
     lines: &mut LineReader,
     root: Point,

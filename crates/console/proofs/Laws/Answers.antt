@@ -1,5 +1,5 @@
 -- What stands in the buffers after plan or judge has answered is what the programs print. Assumes nothing.
-use Rattle.std.specs.Prelude.{ℕ, ◌≡◌, List, [], length, Result, Ok, Err}
+use Rattle.std.specs.Prelude.{ℕ, ◌≡◌, List, [], length, Ok, Err}
 use Rattle.std.proofs.Common.{sym, subst, arith}
 use Rattle.formats.specs.Outcome.{Outcome, value, refused}
 use Rattle.formats.specs.Refusals.{told}

@@ -1,5 +1,5 @@
 -- The measures that judge answers are in the ranges of a listing. Assumes nothing.
-use Rattle.std.specs.Prelude.{ℕ, ◌≤◌, ◌≡◌, refl, List, Result, Ok, Err}
+use Rattle.std.specs.Prelude.{ℕ, ◌≤◌, ◌≡◌, refl, List, Ok}
 use Rattle.std.proofs.Common.{sym, subst, arith}
 use Rattle.quantities.specs.Ranges.{Within}
 use Rattle.tree.specs.Limits.{slack_limit, wire_limit}

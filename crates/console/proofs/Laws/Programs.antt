@@ -1,5 +1,5 @@
 -- What a program makes of a text that was read, and what goes out of the buffer that holds its answer. Assumes nothing.
-use Rattle.std.specs.Prelude.{ℕ, suc, ◌≡◌, ◌≤◌, ◌<◌, ◌++◌, Bool, true, false, T, not, ltb, List, [], length, take, drop, Option, Some, None, IfSome, refl}
+use Rattle.std.specs.Prelude.{ℕ, suc, ◌≡◌, ◌≤◌, ◌<◌, ◌++◌, Bool, true, false, T, not, ltb, List, [], length, take, drop, Option, Some, None, IfSome}
 use Rattle.std.proofs.Common.{sym, ap, subst, ◌∙◌, arith, ltb→lt, nltb→le}
 use Rattle.std.proofs.lemmas.List.{take-append-le, take_all, length-take-le, append-nil}
 use Rattle.std.proofs.Math.Seq.{take-append_seam}
@@ -34,13 +34,16 @@ read_front left text n k e h r = go (ltb n k) (λ t. ltb→lt n k t) (λ t. nltb
 printed_front : (before s : List ℕ) (n : ℕ) (after : List ℕ) → Prints before s n after → take n after ≡ s
 printed_front before s n after p = ap (take n) p.left ∙ ap (λ m. take m (overwritten s before)) p.long ∙ take-append_seam s (drop (length s) before)
 
-pub goes_out : (remaining old new : Option (List ℕ)) (answers : List ℕ → ℕ → Outcome Written) (text : List ℕ) (n sent room : ℕ) (before after : List ℕ) (m : ℕ)
+-- what went out of the buffer is of the answer that was put into it
+pub answer_goes_out : (old new : Option (List ℕ)) (s before after : List ℕ) (m sent : ℕ) → Prints before s m after → Appends old new (take sent (take m after)) → Appends old new (take sent s)
+answer_goes_out old new s before after m sent prints written = subst (λ (s : List ℕ). Appends old new (take sent s)) (printed_front before s m after prints) written
+
+-- what was read of the net is the front of what the reader had
+pub goes_out : (remaining old new : Option (List ℕ)) (answers : List ℕ → ℕ → Outcome Written) (text : List ℕ) (n sent room : ℕ)
     → length text ≡ suc net_length_limit → n ≤ suc net_length_limit → IfSome remaining (λ left. IsRead left text (Some n))
-    → Prints before (plan_printed (answers (take n text) room)) m after → Appends old new (take sent (take m after))
+    → Appends old new (take sent (plan_printed (answers (take n text) room)))
     → IfSome remaining (λ left. Appends old new (take sent (plan_printed (answers (take (suc net_length_limit) left) room))))
-goes_out remaining old new answers text n sent room before after m e h reads prints written =
+goes_out remaining old new answers text n sent room e h reads written =
     if_some remaining
-    (λ left r.
-    subst (λ (s : List ℕ). Appends old new (take sent (plan_printed (answers s room)))) (read_front left text n (suc net_length_limit) e h r)
-    (subst (λ (s : List ℕ). Appends old new (take sent s)) (printed_front before _ m after prints) written))
+    (λ left r. subst (λ (s : List ℕ). Appends old new (take sent (plan_printed (answers s room)))) (read_front left text n (suc net_length_limit) e h r) written)
     reads

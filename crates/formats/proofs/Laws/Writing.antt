@@ -4,7 +4,7 @@ use mathlib.Core.Path.{◌≡◌, refl, ap, sym, ◌∙◌}
 use mathlib.Core.Bool.{false}
 use mathlib.Core.List.{List, [], ◌∷◌, ◌++◌, append_assoc, append-nil}
 use lib.ListN.{length, take, drop, get_or, set, length-append, length-drop, take-append-drop}
-use lib.Seq.{length-take-le, take_at, drop_at, drop-drop, drop-append-add, take-suc, get_or-drop, sets-eq}
+use lib.Seq.{length-take-le, take_at, drop_at, drop-drop, drop-append-add, get_or-drop, sets-eq}
 use lib.IntN.{ℤ, pos, nat_abs}
 use native.Mathlib.Omega.{arith}
 use native.Mathlib.Nat.{add-zero}

@@ -149,12 +149,13 @@ module _ (v : NetView) where
   pub some_viewed : (1 ≤ v.n) × (v.n ≤ sink_limit)
   some_viewed = omega (arith, v.held.in_range.sinks, size_is v.header v.n v.xs.now v.ys.now v.required.now)
 
+  pub viewed_size : size (viewed_net v) ≡ v.n
+  viewed_size = size_is v.header v.n v.xs.now v.ys.now v.required.now
+
   pub sorted : (own : List ℤ) (sinks : List ℕ) → v.n < length own → ((s : ℕ) → 1 ≤ s → s ≤ v.n → get_or own s (pos 0) ≡ own_slack (viewed_net v) s) → v.n ≤ length sinks
-      → ((N : Net) → size N ≡ v.n → ((s : ℕ) → 1 ≤ s → s ≤ v.n → get_or own s (pos 0) ≡ own_slack N s) → take v.n sinks ≡ order N)
-      → SinksReady (viewed_net v) v.header.branch.0 v.n own sinks
+      → take v.n sinks ≡ order (viewed_net v) → SinksReady (viewed_net v) v.header.branch.0 v.n own sinks
   sorted own sinks ol oi sl so =
-      let e = size_is v.header v.n v.xs.now v.ys.now v.required.now in
       record {
-        ready = record { in_range = v.held.in_range; size_is = e; branch_is = branch_is v.header v.n v.xs.now v.ys.now v.required.now v.held; own_long = ol; own_is = oi };
-        lined = record { long = sl; sinks_are = so (viewed_net v) e oi };
+        ready = record { in_range = v.held.in_range; size_is = viewed_size; branch_is = branch_is v.header v.n v.xs.now v.ys.now v.required.now v.held; own_long = ol; own_is = oi };
+        lined = record { long = sl; sinks_are = so };
       }

@@ -54,19 +54,25 @@ module _ (N : Net) (n : ℕ) (G : Listing) (sized : size N ≡ n) (made : G ≡ 
   need_test : lt_z (worst_slack N (plan N)) N.need ≡ lt_z G.slack N.need
   need_test = rw made refl
 
+  pub net_unreachable : (out : List ℕ) → lt_z G.slack N.need ≡ true → (Err Unreachable ≡ plan_answer (plan_net N (length out))) × (out ≡ overwritten (bytes_of (plan_net N (length out))) out)
+  net_unreachable out e = let t = need_test ∙ e in (rw (plan_net, t) refl, rw (plan_net, t) refl)
+
+  pub net_reachable : (r : Result Planned Refusal) (out left : List ℕ) → lt_z G.slack N.need ≡ false → r ≡ plan_answer (emitted n G (length out)) → left ≡ overwritten (bytes_of (emitted n G (length out))) out
+      → (r ≡ plan_answer (plan_net N (length out))) × (left ≡ overwritten (bytes_of (plan_net N (length out))) out)
+  net_reachable r out left e f b =
+      let t = need_test ∙ e in (
+        f ∙ (λ i. plan_answer (emitted (sym sized i) (made i) (length out))) ∙ rw (plan_net, t) refl,
+        b ∙ (λ i. overwritten (bytes_of (emitted (sym sized i) (made i) (length out))) out) ∙ rw (plan_net, t) refl,
+      )
+
   -- the net is that of the text s
   module _ (s : List ℕ) (read : read_net s ≡ value N) where
     pub unreachable : (out : List ℕ) → lt_z G.slack N.need ≡ true → (Err Unreachable ≡ plan_answer (plan_of s (length out))) × (out ≡ plan_output s out)
-    unreachable out e = let t = need_test ∙ e in read_answer s out out N (Err Unreachable) read (rw (plan_net, t) refl, rw (plan_net, t) refl)
+    unreachable out e = read_answer s out out N (Err Unreachable) read (net_unreachable out e)
 
     pub reachable : (r : Result Planned Refusal) (out left : List ℕ) → lt_z G.slack N.need ≡ false → r ≡ plan_answer (emitted n G (length out)) → left ≡ overwritten (bytes_of (emitted n G (length out))) out
         → (r ≡ plan_answer (plan_of s (length out))) × (left ≡ plan_output s out)
-    reachable r out left e f b =
-        let t = need_test ∙ e in
-        read_answer s out left N r read (
-          f ∙ (λ i. plan_answer (emitted (sym sized i) (made i) (length out))) ∙ rw (plan_net, t) refl,
-          b ∙ (λ i. overwritten (bytes_of (emitted (sym sized i) (made i) (length out))) out) ∙ rw (plan_net, t) refl,
-        )
+    reachable r out left e f b = read_answer s out left N r read (net_reachable r out left e f b)
 
 -- a test by the derived order of times, by their numbers
 pub less_says : (a b : ℤ) (t : Bool) → is_lt (cond (lt_z a b) Less (cond (lt_z b a) Greater Equal)) ≡ t → lt_z a b ≡ t

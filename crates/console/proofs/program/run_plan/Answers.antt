@@ -1,7 +1,7 @@
--- What was read is planned, and the first bytes of the answer go out. No loop.
+-- What was read is answered. No loop.
 use Rattle.std.proofs.Common.{arith}
 use Rattle.console.proofs.Laws.Programs.{goes_out}
 use Rattle.console.proofs.program.run_plan.Goals as goal
 
 pub returns : goal.returns
-returns g c = goes_out _ _ _ g.P.Planner.answers c.read_text.new.text c.in-Some.bytes _ _ _ c.print_plan-lengths.new.out _ (omega (arith, c.read_text.auto.text)) (omega (arith, c.in-Some.ensures.fits)) c.in-Some.ensures.read c.print_plan-lengths.ensures.answer c.write_out.ensures.written
+returns g c = goes_out _ _ _ g.P.Planner.answers c.read_text.new.text c.in-Some.bytes _ _ (omega (arith, c.read_text.auto.text)) (omega (arith, c.in-Some.ensures.fits)) c.in-Some.ensures.read c.answer_net.ensures

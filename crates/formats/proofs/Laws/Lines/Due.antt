@@ -21,7 +21,7 @@ use Rattle.formats.specs.Inner.Readers.{ahead, row_answer, row_moved, LineRead}
 use Rattle.formats.specs.declared.ranges.Range.{Range}
 use Rattle.formats.specs.declared.number.Number.{Number}
 use Rattle.formats.specs.declared.reader.LineReader.{LineReader}
-use Rattle.formats.proofs.Laws.Lines.Lines.{line_progress}
+use Rattle.formats.proofs.Laws.Lines.Lines.{line_sound, line_progress}
 
 -- ---- a number in a range is between its ends
 
@@ -54,6 +54,7 @@ pub record IsRow (key : List ℕ) (k : ℕ) (r : LineReader) (ns : List Number) 
   pub there : line_in key k (ahead r) ≡ row zs j
   pub numbers : ns ≡ map held zs
   pub moved : r' ≡ record r { at = r.at + j; line = r.line + 1 }
+  pub count : length zs ≡ k
 
 pub right_row : (key : List ℕ) (k : ℕ) (r : LineReader) (ns : List Number) (r' : LineReader)
     → Ok ns ≡ row_answer r (line_in key k (ahead r)) → r' ≡ row_moved r (line_in key k (ahead r)) → IsRow key k r ns r'
@@ -61,7 +62,7 @@ right_row key k r ns r' = go (line_in key k (ahead r)) refl
   where
     go : (x : Row) → line_in key k (ahead r) ≡ x → Ok ns ≡ row_answer r x → r' ≡ row_moved r x → IsRow key k r ns r'
     go misspelled f e m = absurd (let z : ◌≡◌ {A = ℕ} 0 1 = cc in omega arith)
-    go (row zs j) f e m = record { zs = zs; j = j; there = f; numbers = (let q : ns ≡ map held zs = cc in q); moved = m }
+    go (row zs j) f e m = record { zs = zs; j = j; there = f; numbers = (let q : ns ≡ map held zs = cc in q); moved = m; count = (line_sound key k (ahead r) zs j f).0 }
 
 pub ok_some : {A E : Type 0} (o : Option A) (e : E) (x : A) → Ok x ≡ ok_or o e → Some x ≡ o
 ok_some (Some y) e x h = cc

@@ -1,5 +1,5 @@
 -- A refused head is told at once; else the listing is accepted over the net or refused, and the sink goes. No loop.
-use Rattle.std.proofs.Common.{◌≡◌, length, arith, ap, subst, ◌∙◌}
+use Rattle.std.proofs.Common.{◌≡◌, length, arith, refl, ap, subst, ◌∙◌}
 use Rattle.std.proofs.lemmas.Result.{err_from_is_err_and}
 use Rattle.tree.specs.Inner.Arrays.{net_of, weights_of}
 use Rattle.formats.specs.Outcome.{refused}
@@ -35,7 +35,7 @@ delete_sink-requires-clause-held c =
     let m = c.in_ok-accept_over in
     let few = c.in_ok-head.ensures.at_sinks.at_most in
     let given = over_gives _ c.args.listing.now (record { net = net_of head.header head.n l.xs l.ys l.required; weights = weights_of head.n l.weights }) (listing_held m.field-0.slack m.field-0.wire head.n l.parents l.xs l.ys) m.ensures.accepted in
-    accepted_holds head.header head.n l.xs l.ys l.required l.weights l.parents c.args.listing.now m.field-0.slack m.field-0.wire given.1 m.ensures.held.0 m.ensures.held.1 (omega (arith, k, few)) (omega (arith, k, few)) (omega (arith, k, few))
+    accepted_holds head.header head.n l.xs l.ys l.required l.xs l.ys l.parents c.args.listing.now m.field-0.slack m.field-0.wire (λ v l. refl) given.1 l.weights m.ensures.held.0 m.ensures.held.1 (omega (arith, k, few)) (omega (arith, k, few)) (omega (arith, k, few))
 
 pub delete_sink-requires-clause-listed : goal.delete_sink-requires-clause-listed
 delete_sink-requires-clause-listed c =
@@ -43,7 +43,7 @@ delete_sink-requires-clause-listed c =
     let l = c.accept_over.new in
     let m = c.in_ok-accept_over in
     let given = over_gives _ c.args.listing.now (record { net = net_of head.header head.n l.xs l.ys l.required; weights = weights_of head.n l.weights }) (listing_held m.field-0.slack m.field-0.wire head.n l.parents l.xs l.ys) m.ensures.accepted in
-    accepted_slack head.header head.n l.xs l.ys l.required l.weights l.parents c.args.listing.now m.field-0.slack m.field-0.wire given.1
+    accepted_slack head.header head.n l.xs l.ys l.required l.xs l.ys l.parents c.args.listing.now m.field-0.slack m.field-0.wire (λ v l. refl) given.1
 
 pub returns : goal.returns
 returns c =

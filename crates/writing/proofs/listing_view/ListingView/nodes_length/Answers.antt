@@ -6,7 +6,7 @@ use Rattle.std.proofs.lemmas.Iterator.Consumers.{YieldsList-at, sum_by_from_yiel
 use Rattle.formats.specs.ListingText.{node_text}
 use Rattle.writing.specs.Inner.ListingSeen.{listing_seen}
 use Rattle.writing.proofs.Laws.LineLengths.{lines_length}
-use Rattle.writing.proofs.Laws.ListingLines.{seen_parents, seen_short}
+use Rattle.writing.proofs.Laws.ListingLines.{seen_short}
 use Rattle.writing.proofs.listing_view.ListingView.nodes_length.Goals as goal
 
 pub sum-requires-clause-fits : goal.sum-requires-clause-fits

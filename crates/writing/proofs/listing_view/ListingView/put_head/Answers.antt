@@ -1,5 +1,5 @@
 -- The first three lines are put: each where the one before it ends.
-use Rattle.std.proofs.Common.{◌≡◌, ℕ, ◌+◌, ◌≤◌, List, [], ◌∷◌, ◌++◌, length, ℤ, pos, ap, ◌∙◌, zero-add, arith}
+use Rattle.std.proofs.Common.{◌+◌, ◌≤◌, [], ◌∷◌, ◌++◌, length, ℤ, pos, ap, ◌∙◌, zero-add, arith}
 use mir.Syntax.{w64}
 use mir.Val.{to_z}
 use Rattle.quantities.specs.Inner.Linear.{rd}
