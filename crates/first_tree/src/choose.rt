@@ -32,6 +32,7 @@ fn nearer_of(a: Edge, b: Edge) -> Edge
     requires { a.score.0 ≡ b.score.0 }
     ensures { result ≡ first_of a b }
 {
+    // Most are farther off, which the distances alone tell.
     if b.far < a.far {
         return b;
     }

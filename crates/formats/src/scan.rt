@@ -1,4 +1,5 @@
 // One scanner for every kind of line: a key, and numbers with commas between them and the end byte after the last.
+// What hands the numbers of a line up is inlined, here and in the files above, so that they are not copied from one function to the next.
 ghost use Rattle.std.specs.Prelude.{◌≡◌, ◌≤◌, ◌<◌, length, drop};
 ghost use Rattle.formats.specs.Reading.Numbers.{natural, field};
 ghost use Rattle.formats.specs.Reading.Rows.{number_then, row_in, begins, line_in};

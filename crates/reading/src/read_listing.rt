@@ -1,4 +1,4 @@
-// Reads a tree listing into arrays, or finds what is wrong with it first.
+// Reads a tree listing into arrays, or finds what is wrong with it first. What is done for each line is inlined (formats, scan).
 ghost use Rattle.std.specs.Prelude.{Ok, Err, cond, ◌&&◌, ◌≡◌, ℕ, suc, ◌+◌, ◌*◌, ◌-◌, ◌≤◌, ◌<◌, ℤ, pos, List, map, length, get_or};
 ghost use Rattle.std.specs.Int.Signed.{le_z};
 ghost use Rattle.tree.specs.Limits.{sink_limit};

@@ -1,4 +1,4 @@
-// Reads a net text into arrays, or finds what is wrong with it first.
+// Reads a net text into arrays, or finds what is wrong with it first. What is done for each line is inlined (formats, scan).
 ghost use Rattle.std.specs.Prelude.{◌≡◌, ltb};
 ghost use Rattle.quantities.specs.Distance.{distance};
 ghost use Rattle.quantities.specs.Ranges.{PointWithin};

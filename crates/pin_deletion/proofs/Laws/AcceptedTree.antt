@@ -24,7 +24,10 @@ use Rattle.operations.specs.Accepting.{accept_listing}
 use Rattle.operations.specs.Demands.{LegalAndTrue}
 use Rattle.operations.proofs.Laws.Accepting.{legal_no_sink}
 use Rattle.operations.proofs.Laws.Demands.{accepted_is}
+use Rattle.pin_deletion.specs.Deletions.{deleted}
 use Rattle.shorter_tree.specs.Inner.Arrays.{HoldsLegal, SlackInRange}
+use Rattle.pin_deletion.specs.Inner.Answers.{deleted_over}
+use Rattle.pin_deletion.proofs.Laws.Deletions.{listing_accepted}
 
 -- the root and the sinks stand as before; the listing's parents and points were put beside them
 module _ (h : Header) (n : ℕ) (xs ys rs xs' ys' : List ℤ) (ps listing : List ℕ) (slack : Time) (wire : Length) (kept : SinksKept n xs ys xs' ys')
@@ -54,3 +57,6 @@ module _ (h : Header) (n : ℕ) (xs ys rs xs' ys' : List ℤ) (ps listing : List
 
   pub accepted_slack : SlackInRange h n ps xs' ys' rs
   accepted_slack = subst (Within slack_limit) (is.1.1 ∙ ap (λ M. worst_slack M (tree_of n ps xs' ys')) (sym same)) is.0.in_range.slack
+
+  pub accepted_deleted : (w : List ℕ) (s net_room listing_room : ℕ) → deleted (net_of h n xs' ys' rs) w (tree_of n ps xs' ys') s net_room listing_room ≡ deleted_over N w listing s net_room listing_room
+  accepted_deleted w s net_room listing_room = ap (λ M. deleted M w (tree_of n ps xs' ys') s net_room listing_room) same ∙ sym (listing_accepted N w listing s net_room listing_room G accepted)

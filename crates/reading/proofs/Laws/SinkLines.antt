@@ -18,7 +18,6 @@ use Rattle.tree.specs.Net.{sink_numbers}
 use Rattle.tree.specs.Inner.Arrays.{point_at}
 use Rattle.tree.proofs.Laws.Lists.Tables.{table_cong}
 use Rattle.formats.specs.Outcome.{Outcome, value, refused, and_then}
-use Rattle.formats.specs.Ranges.{at}
 use Rattle.formats.specs.Reading.Lines.{Read, reading}
 use Rattle.formats.specs.NetText.{WeightedSink}
 use Rattle.formats.specs.Reading.Nets.{sink_of, due_sink, read_sinks, read_rest, net_with}

@@ -1,5 +1,5 @@
 -- The parent of leaf k is read, or refused by 2, 3 or 8: by its spelling, its number, its range, and whether that is a sink. No loop.
-use Rattle.std.proofs.Common.{ap, ◌∙◌, arith, [], ◌∷◌, ◌-◌}
+use Rattle.std.proofs.Common.{ap, ◌∙◌, arith, [], ◌∷◌}
 use Rattle.std.proofs.lemmas.Result.{err_from_is_err_and}
 use Rattle.quantities.specs.Inner.Linear.{whole}
 use Rattle.formats.specs.Ranges.{at}

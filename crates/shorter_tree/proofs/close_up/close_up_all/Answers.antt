@@ -1,5 +1,5 @@
 -- Each array closes up after the other; what they then hold is the net, the weights and the tree without the sink (`holds_shorter`). No loop.
-use Rattle.std.proofs.Common.{◌≡◌, ℕ, suc, ◌*◌, ◌-◌, ◌≤◌, ◌<◌, List, get_or, pos, arith, rules}
+use Rattle.std.proofs.Common.{◌≡◌, ℕ, suc, ◌*◌, ◌≤◌, ◌<◌, List, get_or, pos, arith, rules}
 use Rattle.std.proofs.iter.Serving.{serving}
 use Rattle.tree.specs.Limits.{sink_limit}
 use Rattle.tree.specs.Tree.{Legal}

@@ -1,5 +1,5 @@
 -- No vertex has a parent at first; each step is a join (join_next), and n - 1 of them are all.
-use Rattle.std.proofs.Common.{◌≡◌, ℕ, suc, ◌+◌, ◌*◌, ◌-◌, ◌≤◌, ◌<◌, List, ◌++◌, length, get_or, take, drop, replicate, refl, ◌∙◌, subst, arith, rules}
+use Rattle.std.proofs.Common.{◌≡◌, ℕ, suc, ◌+◌, ◌*◌, ◌≤◌, ◌<◌, List, ◌++◌, length, get_or, take, drop, replicate, refl, ◌∙◌, subst, arith, rules}
 use Rattle.std.proofs.lemmas.List.{places}
 use Rattle.tree.specs.Inner.Arrays.{weights_of}
 use Rattle.weighted_tree.specs.Joining.{joined_after}

@@ -1,5 +1,5 @@
 -- The total weight of the two that are taken fits, and the stores are those of one join (JoinArrays). No loop.
-use Rattle.std.proofs.Common.{◌≡◌, List, ℕ, ◌+◌, ◌*◌, ◌-◌, ◌≤◌, get_or, ℤ, pos, ◌+ℤ◌, FitsSigned, w64, refl, sym, ap₂, ◌∙◌, subst, arith}
+use Rattle.std.proofs.Common.{◌≡◌, List, ℕ, ◌+◌, ◌*◌, ◌≤◌, get_or, ℤ, pos, ◌+ℤ◌, FitsSigned, w64, refl, sym, ap₂, ◌∙◌, subst, arith}
 use Rattle.std.proofs.lemmas.Int.{to_z-of_z}
 use Rattle.quantities.specs.Inner.Linear.{whole, rd}
 use Rattle.tree.specs.Limits.{sink_limit, weight_limit}
