@@ -98,6 +98,8 @@ fn or_nearer_sink(best: Edge, pins: Pins, scoring: Scoring, u: usize, s: usize) 
 }
 
 // The best edge to one of the sinks, where `found` is the best to one of those from place `left` on, and those before it score no more.
+// It is no part of its caller: so the loop has the registers for itself.
+#[inline(never)]
 fn or_nearer_sinks(
     found: Edge,
     left: usize,
